@@ -1,0 +1,71 @@
+-- The tests of the column come first, then the one of the start.
+use mathlib.Core.Path.{sym, _∙_}
+use borrow.Author.Tests.{eq-eqb, ne-eqb}
+use Rattle.refusals.specs.Refusals.{faultOf}
+use Rattle.refusals.proofs.Laws.{stops, continues, passes, fails}
+use Rattle.dutyfile.specs.Faults.{entryFault}
+use borrow.Author.Needs.{needs}
+use Rattle.dutyfile.proofs.check_entry.Statement.{statement}
+use Rattle.dutyfile.proofs.check_entry.Tie as tie
+use Rattle.dutyfile.proofs.check_entry.Reads as reads
+use Rattle.dutyfile.proofs.check_entry.Lts as lts
+use Rattle.dutyfile.proofs.check_column.Reads as check-column-reads
+
+-- src/lib.rt:89:9
+check-column-requires : tie.Need-check-column-requires
+check-column-requires c κs = search needs
+
+-- src/lib.rt:91:29
+enum-told : tie.Need-enum-told
+enum-told c = search needs
+
+-- src/lib.rt:93:16
+enum-told-2 : tie.Need-enum-told-2
+enum-told-2 c = search needs
+
+-- src/lib.rt:93:16
+cast-if1 : tie.Need-cast-if1
+cast-if1 c = search needs
+
+-- src/lib.rt:93:40
+mul-if1 : tie.Need-mul-if1
+mul-if1 c = search needs
+
+-- src/lib.rt:93:36
+add-if1 : tie.Need-add-if1
+add-if1 c = search needs
+
+-- src/lib.rt:93:36
+add-if1-2 : tie.Need-add-if1-2
+add-if1-2 c = search needs
+
+returns : tie.Need-returns
+unfolding faultOf entryFault
+returns c =
+    let column = c .before .before .before .before .check-column in
+    sym (continues (column .ensures) _ (c .before .before .enum-told2 .given .1) ∙ fails 7 (ne-eqb _ _ (c .if1 .taken)))
+
+returns-2 : tie.Need-returns-2
+unfolding entryFault
+returns-2 c = stops (c .before .before .check-column .ensures) _ _ (c .enum-told .given .1)
+
+returns-3 : tie.Need-returns-3
+unfolding faultOf entryFault
+returns-3 c =
+    let column = c .before .before .before .before .check-column in
+    sym (continues (column .ensures) _ (c .before .before .enum-told2 .given .1) ∙ passes 7 (eq-eqb _ _ (c .if1 .left)))
+
+pub check-entry-spec : {M : Type 1} → statement M
+check-entry-spec =
+    tie.close
+    (tie.spec
+    check-column-requires
+    enum-told
+    enum-told-2
+    cast-if1
+    mul-if1
+    add-if1
+    add-if1-2
+    returns
+    returns-2
+    returns-3)

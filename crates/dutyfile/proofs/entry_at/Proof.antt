@@ -1,0 +1,55 @@
+use Rattle.dutyfile.specs.File.{bodiesAt}
+use Rattle.dutyfile.proofs.Entries.{entry-made}
+use borrow.Author.Needs.{needs}
+use Rattle.dutyfile.proofs.entry_at.Statement.{statement}
+use Rattle.dutyfile.proofs.entry_at.Tie as tie
+use Rattle.dutyfile.proofs.entry_at.Reads as reads
+use Rattle.dutyfile.proofs.entry_at.Lts as lts
+use Rattle.endian.proofs.get16.Reads as get16-reads
+use Rattle.endian.proofs.get32.Reads as get32-reads
+
+-- src/lib.rt:33:18
+mul-at : tie.Need-mul-at
+mul-at c = search needs
+
+-- src/lib.rt:33:14
+add-at : tie.Need-add-at
+add-at c = search needs
+
+-- src/lib.rt:35:15
+get32-requires : tie.Need-get32-requires
+get32-requires c κs = search needs
+
+-- src/lib.rt:36:36
+add-get16 : tie.Need-add-get16
+add-get16 c = search needs
+
+-- src/lib.rt:36:16
+get16-requires : tie.Need-get16-requires
+get16-requires c κs = search needs
+
+-- src/lib.rt:37:35
+add-get16-2 : tie.Need-add-get16-2
+add-get16-2 c = search needs
+
+-- src/lib.rt:37:15
+get16-requires-2 : tie.Need-get16-requires-2
+get16-requires-2 c κs = search needs
+
+returns : tie.Need-returns
+returns c =
+    let a = c .before .before .before .before .args in
+    entry-made (a .file .now) (bodiesAt (a .j)) _ _ _ (c .before .before .get32 .ensures) (c .before .get16 .ensures) (c .get162 .ensures)
+
+pub entry-at-spec : {M : Type 1} → statement M
+entry-at-spec =
+    tie.close
+    (tie.spec
+    mul-at
+    add-at
+    get32-requires
+    add-get16
+    get16-requires
+    add-get16-2
+    get16-requires-2
+    returns)

@@ -1,0 +1,93 @@
+-- The tests of a file and of the writer's lists, in 01's sequence, and what reader and writer come to (01, When a call declines).
+use mathlib.Core.Bool.{Bool, true, _&&_}
+use mathlib.Core.List.{List, [], _∷_}
+use Prim.Native.Nat.{ℕ, _+_}
+use lib.Dec.{eqb, leb, ltb}
+use lib.ListN.{length, take}
+use Rattle.endian.specs.Bytes.{same}
+use Rattle.refusals.specs.Refusals.{Fault, fine, ask, _then_, Outcome, unless}
+use Rattle.dutyfile.specs.declared.Entry.{Entry}
+use Rattle.dutyfile.specs.declared.Shape.{Shape}
+use Rattle.dutyfile.specs.File.{Lists, magic, rowsIn, columnsIn, bodiesAt, entries, parse, render, sum, bodies, shape}
+
+-- from low to high
+abbrev pub within : ℕ → ℕ → ℕ → Bool
+within low high x = leb low x && leb x high
+
+-- rising: each number is above the one before, the first above low, and none is above high
+unfoldable pub rising : ℕ → ℕ → List ℕ → Bool
+rising low high [] = true
+rising low high (x ∷ xs) = ltb low x && (leb x high && rising x high xs)
+
+-- 2: m or n out of range
+unfoldable pub countsFault : ℕ → ℕ → Fault
+countsFault m n = ask (within 1 64 m) 2 then ask (within 1 256 n) 2
+
+-- 4, 5, 6 for a column with cost c and l rows, where the columns before it have t rows in all
+unfoldable pub columnFault : ℕ → ℕ → ℕ → ℕ → Fault
+columnFault m t c l =
+    ask (within 1 1000000 c) 4
+    then ask (within 1 m l) 5
+    then ask (leb (t + l) 4096) 6
+
+-- 4, 5, 6, 7 for an entry: its body starts where the former ends
+unfoldable pub entryFault : ℕ → ℕ → ℕ → Entry → Fault
+entryFault m n t e =
+    columnFault m t (e .cost) (e .size)
+    then ask (eqb (e .start) (bodiesAt n + t)) 7
+
+-- entry by entry
+unfoldable pub entriesFault : ℕ → ℕ → ℕ → List Entry → Fault
+entriesFault m n t [] = fine
+entriesFault m n t (e ∷ es) = entryFault m n t e then entriesFault m n (t + e .size) es
+
+-- column by column
+unfoldable pub columnsFault : ℕ → ℕ → List ℕ → List ℕ → Fault
+columnsFault m t [] ls = fine
+columnsFault m t (c ∷ cs) [] = fine
+columnsFault m t (c ∷ cs) (l ∷ ls) = columnFault m t c l then columnsFault m (t + l) cs ls
+
+-- 9, body by body: each row number is from 1 to m, rising
+unfoldable pub bodiesFault : ℕ → List (List ℕ) → Fault
+bodiesFault m [] = fine
+bodiesFault m (b ∷ bs) = ask (rising 0 m b) 9 then bodiesFault m bs
+
+-- 1, 2, 3
+unfoldable pub headerFault : List ℕ → Fault
+headerFault s =
+    ask (leb 8 (length s)) 1
+    then ask (same (take 4 s) magic) 1
+    then countsFault (rowsIn s) (columnsIn s)
+    then ask (leb (bodiesAt (columnsIn s)) (length s)) 3
+
+-- a file: 1, 2, 3; then 4, 5, 6, 7 column by column; then 8; then 9 body by body
+unfoldable pub fileFault : List ℕ → Fault
+fileFault s =
+    headerFault s
+    then entriesFault (rowsIn s) (columnsIn s) 0 (entries s)
+    then ask (eqb (length s) (bodiesAt (columnsIn s) + sum (parse s .lengths))) 8
+    then bodiesFault (rowsIn s) (bodies (parse s .lengths) (parse s .numbers))
+
+-- the writer's lists: 2; 13; 4, 5, 6 column by column; 13; 9
+unfoldable pub listsFault : Lists → Fault
+listsFault d =
+    countsFault (d .rows) (length (d .costs))
+    then ask (eqb (length (d .lengths)) (length (d .costs))) 13
+    then columnsFault (d .rows) 0 (d .costs) (d .lengths)
+    then ask (eqb (length (d .numbers)) (sum (d .lengths))) 13
+    then bodiesFault (d .rows) (bodies (d .lengths) (d .numbers))
+
+-- 10: a lent list that holds fewer places than it must
+abbrev pub room : ℕ → ℕ → Fault
+room needed places = ask (leb needed places) 10
+
+-- reading a file, where the three lent lists hold c, l and r places
+unfoldable pub reading : List ℕ → ℕ → ℕ → ℕ → Outcome Shape
+reading s c l r =
+    unless
+    (fileFault s then room (columnsIn s) c then room (columnsIn s) l then room (sum (parse s .lengths)) r)
+    (shape s)
+
+-- writing lists, where the lent buffer holds k places: the file's length
+unfoldable pub writing : Lists → ℕ → Outcome ℕ
+writing d k = unless (listsFault d then room (length (render d)) k) (length (render d))

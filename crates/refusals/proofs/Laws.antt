@@ -1,0 +1,55 @@
+-- Sequences of tests: how a caller goes on after a test, and what it means that all of them pass.
+use mathlib.Core.Path.{_≡_, refl, sym, _∙_}
+use mathlib.Core.Bool.{Bool, true, false}
+use mathlib.Core.List.{List, _++_}
+use lib.ListN.{length, drop}
+use Prim.Native.Nat.{ℕ}
+use native.Mathlib.Omega.{arith}
+use Rattle.refusals.specs.Refusals.{Fault, fine, fault, ask, _then_, numberOf, faultOf, Outcome, accepted, refused, unless, filled}
+use Rattle.refusals.specs.declared.Refusal.{Refusal}
+use Rattle.refusals.specs.declared.Check.{Check}
+use Rattle.refusals.specs.declared.Check.the-variants.{Passed, Failed}
+
+-- after a test that failed, and after one that passed
+pub stops-at : {a : Fault} (k : ℕ) (b : Fault) → a ≡ fault k → (a then b) ≡ fault k
+unfolding _then_
+stops-at k b e = rw e
+
+pub goes-on : {a : Fault} (b : Fault) → a ≡ fine → (a then b) ≡ b
+unfolding _then_
+goes-on b e = rw e
+
+pub passes : {t : Bool} (k : ℕ) → t ≡ true → ask t k ≡ fine
+unfolding ask
+passes k e = rw e
+
+pub fails : {t : Bool} (k : ℕ) → t ≡ false → ask t k ≡ fault k
+unfolding ask
+fails k e = rw e
+
+-- what a call's result says, by the arm of a match
+module _ {r : Check} {a : Fault} (is : faultOf r ≡ a) where
+  pub failed : (w : Refusal) → r ≡ Failed w → a ≡ fault (numberOf w)
+  unfolding faultOf
+  failed w e = rw e at (sym is)
+
+  pub passed : r ≡ Passed → a ≡ fine
+  unfolding faultOf
+  passed e = rw e at (sym is)
+
+  pub stops : (b : Fault) (w : Refusal) → r ≡ Failed w → faultOf r ≡ (a then b)
+  stops b w e = is ∙ failed w e ∙ sym (stops-at (numberOf w) b (failed w e))
+
+  pub continues : (b : Fault) → r ≡ Passed → (a then b) ≡ b
+  continues b e = goes-on b (passed e)
+
+-- all tests pass: each of them does
+pub both : (a b : Fault) → (a then b) ≡ fine → (a ≡ fine) × (b ≡ fine)
+unfolding _then_
+both fine b e = (refl, e)
+both (fault k) b e = absurd (let z : _≡_ {A = ℕ} 0 1 = cc in omega arith)
+
+pub asked : (t : Bool) (k : ℕ) → ask t k ≡ fine → t ≡ true
+unfolding ask
+asked true k e = refl
+asked false k e = absurd (let z : _≡_ {A = ℕ} 0 1 = cc in omega arith)
