@@ -1,2 +1,5 @@
 pub mod Rising
 pub mod Entries
+pub mod Facts
+pub mod Columns
+pub mod Round

@@ -53,3 +53,9 @@ pub asked : (t : Bool) (k : ℕ) → ask t k ≡ fine → t ≡ true
 unfolding ask
 asked true k e = refl
 asked false k e = absurd (let z : _≡_ {A = ℕ} 0 1 = cc in omega arith)
+
+-- a call that accepts: its tests pass, and its answer is the one stated
+pub accepts : {A : Type 0} (f : Fault) (a b : A) → unless f a ≡ accepted b → (f ≡ fine) × (a ≡ b)
+unfolding unless
+accepts fine a b e = (refl, cc)
+accepts (fault k) a b e = absurd (let z : _≡_ {A = ℕ} 0 1 = cc in omega arith)

@@ -1,0 +1,136 @@
+-- What it means that the tests pass: the facts about the numbers, and back.
+use mathlib.Core.Path.{_≡_, refl, _∙_}
+use mathlib.Core.Bool.{Bool, true, false, _&&_}
+use mathlib.Core.List.{List, _∷_}
+use Prim.Native.Nat.{ℕ, _+_, _≤_}
+use lib.Dec.{leb}
+use lib.ListN.{length, take}
+use borrow.Author.Tests.{leb-true, eqb-true, le-leb, eq-eqb}
+use Rattle.endian.specs.Bytes.{same}
+use Rattle.refusals.specs.Refusals.{Fault, fine, ask, _then_}
+use Rattle.refusals.proofs.Laws.{both, asked, goes-on, passes}
+use Rattle.dutyfile.specs.declared.Entry.{Entry}
+use Rattle.dutyfile.specs.File.{magic, rowsIn, columnsIn, bodiesAt, entries, parse, sum, bodies}
+use Rattle.dutyfile.specs.Faults.{within, countsFault, columnFault, entryFault, entriesFault, bodiesFault, headerFault, fileFault}
+
+pub all-pass : {a b : Fault} → a ≡ fine → b ≡ fine → (a then b) ≡ fine
+all-pass {b = b} e f = goes-on b e ∙ f
+
+and-left : (a b : Bool) → (a && b) ≡ true → a ≡ true
+and-left true b e = refl
+and-left false b e = e
+
+and-right : (a b : Bool) → (a && b) ≡ true → b ≡ true
+and-right true b e = e
+and-right false true e = refl
+and-right false false e = e
+
+-- a number in its range
+pub record Within (low high x : ℕ) : Type 0 where
+  pub least : low ≤ x
+  pub most : x ≤ high
+
+pub ask-within : (low high x k : ℕ) → ask (within low high x) k ≡ fine → Within low high x
+ask-within low high x k e =
+    let t = asked (within low high x) k e in
+    record { least = leb-true low x (and-left (leb low x) (leb x high) t); most = leb-true x high (and-right (leb low x) (leb x high) t) }
+
+pub within-asks : (low high x k : ℕ) → Within low high x → ask (within low high x) k ≡ fine
+unfolding ask
+within-asks low high x k w = simp (le-leb _ _ (w .least), le-leb _ _ (w .most))
+
+-- the numbers of rows and columns
+pub record Counts (m n : ℕ) : Type 0 where
+  pub rows : Within 1 64 m
+  pub columns : Within 1 256 n
+
+pub counts-fine : (m n : ℕ) → countsFault m n ≡ fine → Counts m n
+unfolding countsFault
+counts-fine m n e =
+    let b = both _ _ e in
+    record { rows = ask-within 1 64 m 2 (b .0); columns = ask-within 1 256 n 2 (b .1) }
+
+-- a column
+pub record Column (m t c l : ℕ) : Type 0 where
+  pub cost : Within 1 1000000 c
+  pub size : Within 1 m l
+  pub total : t + l ≤ 4096
+
+pub column-fine : (m t c l : ℕ) → columnFault m t c l ≡ fine → Column m t c l
+unfolding columnFault
+column-fine m t c l e =
+    let b = both _ _ e in
+    let d = both _ _ (b .1) in
+    record { cost = ask-within 1 1000000 c 4 (b .0); size = ask-within 1 m l 5 (d .0); total = leb-true _ _ (asked _ 6 (d .1)) }
+
+-- an entry, and the entries after it
+pub record Entered (m n t : ℕ) (e : Entry) (es : List Entry) : Type 0 where
+  pub column : columnFault m t (e .cost) (e .size) ≡ fine
+  pub start : e .start ≡ bodiesAt n + t
+  pub rest : entriesFault m n (t + e .size) es ≡ fine
+
+pub entry-fine : (m n t : ℕ) (e : Entry) (es : List Entry) → entriesFault m n t (e ∷ es) ≡ fine → Entered m n t e es
+unfolding entriesFault entryFault
+entry-fine m n t e es h =
+    let b = both _ _ h in
+    let d = both _ _ (b .0) in
+    record { column = d .0; start = eqb-true _ _ (asked _ 7 (d .1)); rest = b .1 }
+
+pub fine-entry : (m n t : ℕ) (e : Entry) (es : List Entry) → Entered m n t e es → entriesFault m n t (e ∷ es) ≡ fine
+unfolding entriesFault entryFault
+fine-entry m n t e es h = all-pass (all-pass (h .column) (passes 7 (eq-eqb _ _ (h .start)))) (h .rest)
+
+-- the header
+pub record Header (s : List ℕ) : Type 0 where
+  pub long : 8 ≤ length s
+  pub marked : same (take 4 s) magic ≡ true
+  pub counts : Counts (rowsIn s) (columnsIn s)
+  pub contents : bodiesAt (columnsIn s) ≤ length s
+
+pub header-fine : (s : List ℕ) → headerFault s ≡ fine → Header s
+unfolding headerFault
+header-fine s e =
+    let a = both _ _ e in
+    let b = both _ _ (a .1) in
+    let d = both _ _ (b .1) in
+    record {
+      long = leb-true _ _ (asked _ 1 (a .0));
+      marked = asked _ 1 (b .0);
+      counts = counts-fine _ _ (d .0);
+      contents = leb-true _ _ (asked _ 3 (d .1));
+    }
+
+-- the header and the contents, with the file's length as they say
+pub record Walked (s : List ℕ) : Type 0 where
+  pub header : Header s
+  pub contents : entriesFault (rowsIn s) (columnsIn s) 0 (entries s) ≡ fine
+  pub end : length s ≡ bodiesAt (columnsIn s) + sum (parse s .lengths)
+
+-- an accepted file
+pub record Accepted (s : List ℕ) : Type 0 where
+  pub walked : Walked s
+  pub bodies : bodiesFault (rowsIn s) (Rattle.dutyfile.specs.File.bodies (parse s .lengths) (parse s .numbers)) ≡ fine
+
+pub file-fine : (s : List ℕ) → fileFault s ≡ fine → Accepted s
+unfolding fileFault
+file-fine s e =
+    let a = both _ _ e in
+    let b = both _ _ (a .1) in
+    let d = both _ _ (b .1) in
+    record {
+      walked = record { header = header-fine s (a .0); contents = b .0; end = eqb-true _ _ (asked _ 8 (d .0)) };
+      bodies = d .1;
+    }
+
+pub fine-file : (s : List ℕ) → Accepted s → fileFault s ≡ fine
+unfolding fileFault headerFault countsFault
+fine-file s a =
+    let h = a .walked .header in
+    all-pass
+    (all-pass (passes 1 (le-leb _ _ (h .long)))
+    (all-pass (passes 1 (h .marked))
+    (all-pass (all-pass (within-asks 1 64 _ 2 (h .counts .rows)) (within-asks 1 256 _ 2 (h .counts .columns)))
+    (passes 3 (le-leb _ _ (h .contents))))))
+    (all-pass (a .walked .contents)
+    (all-pass (passes 8 (eq-eqb _ _ (a .walked .end)))
+    (a .bodies)))
