@@ -35,6 +35,11 @@ placed m n t (suc j) (e ∷ es) d h l =
     let q : t + e .size + before j es ≡ t + (e .size + before j es) = omega arith in
     record { column = rw q at (p .column); start = omega (arith, p .start); within = omega (arith, p .within) }
 
+pub length-bodies : (ls rs : List ℕ) → length (bodies ls rs) ≡ length ls
+unfolding bodies
+length-bodies [] rs = refl
+length-bodies (l ∷ ls) rs = ap suc (length-bodies ls (drop l rs))
+
 -- body j
 body-at : (ls rs : List ℕ) (j : ℕ) → j < length ls → getD (bodies ls rs) j [] ≡ take (getD ls j 0) (drop (sum (take j ls)) rs)
 unfolding bodies sum

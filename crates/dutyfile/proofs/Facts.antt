@@ -10,8 +10,8 @@ use Rattle.endian.specs.Bytes.{same}
 use Rattle.refusals.specs.Refusals.{Fault, fine, ask, _then_}
 use Rattle.refusals.proofs.Laws.{both, asked, goes-on, passes}
 use Rattle.dutyfile.specs.declared.Entry.{Entry}
-use Rattle.dutyfile.specs.File.{magic, rowsIn, columnsIn, bodiesAt, entries, parse, sum, bodies}
-use Rattle.dutyfile.specs.Faults.{within, countsFault, columnFault, entryFault, entriesFault, bodiesFault, headerFault, fileFault}
+use Rattle.dutyfile.specs.File.{magic, rowsIn, columnsIn, bodiesAt, entries, parse, sum}
+use Rattle.dutyfile.specs.Faults.{within, countsFault, columnFault, entryFault, entriesFault, headerFault, contentsFault, endFault, rowsFault, fileFault}
 
 pub all-pass : {a b : Fault} → a ≡ fine → b ≡ fine → (a then b) ≡ fine
 all-pass {b = b} e f = goes-on b e ∙ f
@@ -106,10 +106,14 @@ pub record Walked (s : List ℕ) : Type 0 where
   pub contents : entriesFault (rowsIn s) (columnsIn s) 0 (entries s) ≡ fine
   pub end : length s ≡ bodiesAt (columnsIn s) + sum (parse s .lengths)
 
+pub walk-fine : (s : List ℕ) → headerFault s ≡ fine → contentsFault s ≡ fine → endFault s ≡ fine → Walked s
+unfolding contentsFault endFault
+walk-fine s h c e = record { header = header-fine s h; contents = c; end = eqb-true _ _ (asked _ 8 e) }
+
 -- an accepted file
 pub record Accepted (s : List ℕ) : Type 0 where
   pub walked : Walked s
-  pub bodies : bodiesFault (rowsIn s) (Rattle.dutyfile.specs.File.bodies (parse s .lengths) (parse s .numbers)) ≡ fine
+  pub rising : rowsFault s ≡ fine
 
 pub file-fine : (s : List ℕ) → fileFault s ≡ fine → Accepted s
 unfolding fileFault
@@ -117,13 +121,10 @@ file-fine s e =
     let a = both _ _ e in
     let b = both _ _ (a .1) in
     let d = both _ _ (b .1) in
-    record {
-      walked = record { header = header-fine s (a .0); contents = b .0; end = eqb-true _ _ (asked _ 8 (d .0)) };
-      bodies = d .1;
-    }
+    record { walked = walk-fine s (a .0) (b .0) (d .0); rising = d .1 }
 
 pub fine-file : (s : List ℕ) → Accepted s → fileFault s ≡ fine
-unfolding fileFault headerFault countsFault
+unfolding fileFault headerFault countsFault contentsFault endFault
 fine-file s a =
     let h = a .walked .header in
     all-pass
@@ -133,4 +134,4 @@ fine-file s a =
     (passes 3 (le-leb _ _ (h .contents))))))
     (all-pass (a .walked .contents)
     (all-pass (passes 8 (eq-eqb _ _ (a .walked .end)))
-    (a .bodies)))
+    (a .rising)))

@@ -16,7 +16,7 @@ use Rattle.refusals.proofs.Laws.{both, asked, accepts, passes}
 use Rattle.dutyfile.specs.declared.Entry.{Entry}
 use Rattle.dutyfile.specs.declared.Shape.{Shape}
 use Rattle.dutyfile.specs.File.{Lists, magic, rowsIn, columnsIn, bodiesAt, entryOf, entriesOf, entries, costOf, sizeOf, parse, contents, header, render, sum, bodies}
-use Rattle.dutyfile.specs.Faults.{countsFault, columnFault, entriesFault, columnsFault, bodiesFault, headerFault, fileFault, listsFault, reading, writing}
+use Rattle.dutyfile.specs.Faults.{countsFault, columnFault, entriesFault, columnsFault, bodiesFault, rowsFault, fileFault, listsFault, reading, writing}
 use Rattle.dutyfile.proofs.Entries.{length-entries}
 use Rattle.dutyfile.proofs.Facts.{all-pass, within-asks, Counts, counts-fine, Column, column-fine, entry-fine, fine-entry, Accepted, file-fine, fine-file}
 
@@ -128,6 +128,10 @@ module _ (d : Lists) (p : Passing d) where
   unfolding parse
   lists-back = rw (rows-back, entries-back .costs, entries-back .sizes, numbers-back)
 
+  rows-rise : rowsFault (render d) ≡ fine
+  unfolding rowsFault
+  rows-rise = rw (rows-back, lists-back) (p .bodies)
+
   file-passes : fileFault (render d) ≡ fine
   file-passes =
       let l = length-render d (p .same) in
@@ -142,7 +146,7 @@ module _ (d : Lists) (p : Passing d) where
           contents = rw (rows-back, columns-count) (entries-back .passing);
           end = rw (columns-count, lists-back) (omega (arith, l, p .whole));
         };
-        bodies = rw (rows-back, lists-back) (p .bodies);
+        rising = rows-rise;
       })
 
 -- What the writer writes passes the reader's tests and holds the lists that were written.
@@ -242,14 +246,14 @@ module _ (s : List ℕ) (y : Bytes s) (a : Accepted s) where
   left = omega (arith, a .walked .end)
 
   lists-pass : listsFault (parse s) ≡ fine
-  unfolding listsFault countsFault parse
+  unfolding listsFault countsFault rowsFault parse
   lists-pass =
       let h = a .walked .header in
       all-pass (rw length-costs (all-pass (within-asks 1 64 _ 2 (h .counts .rows)) (within-asks 1 256 _ 2 (h .counts .columns))))
       (all-pass (passes 13 (eq-eqb _ _ (length-lengths ∙ sym length-costs)))
       (all-pass (columns-pass (rowsIn s) (columnsIn s) 0 (entries s) (a .walked .contents))
       (all-pass (passes 13 (eq-eqb _ _ (length-drop (bodiesAt (columnsIn s)) s ∙ left)))
-      (a .bodies))))
+      (a .rising))))
 
 -- Writing the lists read from an accepted file passes the writer's tests and gives its bytes, all of them.
 pub record WritesBack (s : List ℕ) : Type 0 where

@@ -60,13 +60,25 @@ headerFault s =
     then countsFault (rowsIn s) (columnsIn s)
     then ask (leb (bodiesAt (columnsIn s)) (length s)) 3
 
+-- 4, 5, 6, 7 column by column
+unfoldable pub contentsFault : List ℕ → Fault
+contentsFault s = entriesFault (rowsIn s) (columnsIn s) 0 (entries s)
+
+-- 8: the file ends with the last body
+unfoldable pub endFault : List ℕ → Fault
+endFault s = ask (eqb (length s) (bodiesAt (columnsIn s) + sum (parse s .lengths))) 8
+
+-- 9 body by body
+unfoldable pub rowsFault : List ℕ → Fault
+rowsFault s = bodiesFault (rowsIn s) (bodies (parse s .lengths) (parse s .numbers))
+
 -- a file: 1, 2, 3; then 4, 5, 6, 7 column by column; then 8; then 9 body by body
 unfoldable pub fileFault : List ℕ → Fault
 fileFault s =
     headerFault s
-    then entriesFault (rowsIn s) (columnsIn s) 0 (entries s)
-    then ask (eqb (length s) (bodiesAt (columnsIn s) + sum (parse s .lengths))) 8
-    then bodiesFault (rowsIn s) (bodies (parse s .lengths) (parse s .numbers))
+    then contentsFault s
+    then endFault s
+    then rowsFault s
 
 -- the writer's lists: 2; 13; 4, 5, 6 column by column; 13; 9
 unfoldable pub listsFault : Lists → Fault

@@ -51,9 +51,13 @@ unfoldable pub unless : {A : Type 0} → Fault → A → Outcome A
 unless fine a = accepted a
 unless (fault k) a = refused k
 
--- what a lent list holds after a call that fills its front: the other places keep their contents, and after a refusal all do
+-- a list with its front filled: the other places keep their contents
+unfoldable pub front : List ℕ → List ℕ → List ℕ
+front new old = new ++ drop (length new) old
+
+-- what a lent list holds after a call that fills its front: after a refusal every place keeps its contents
 unfoldable pub filled : {A : Type 0} → Outcome A → List ℕ → List ℕ → List ℕ
-filled (accepted a) new old = new ++ drop (length new) old
+filled (accepted a) new old = front new old
 filled (refused k) new old = old
 
 -- the code's test results in these terms

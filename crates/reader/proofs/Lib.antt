@@ -1,0 +1,3 @@
+mod Header
+mod Entries
+mod Bodies
