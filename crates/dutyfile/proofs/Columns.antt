@@ -1,8 +1,8 @@
 -- A column of a file whose contents pass: its entry says its cost, and its body is the part of the file from the entry's start for its length.
-use mathlib.Core.Path.{_≡_, refl, ap, sym, _∙_}
+use mathlib.Core.Path.{_≡_, refl, ap, _∙_}
 use mathlib.Core.List.{List, [], _∷_, map}
 use Prim.Native.Nat.{ℕ, zero, suc, _+_, _≤_, _<_}
-use native.Mathlib.Nat.{add-zero, zero-add}
+use native.Mathlib.Nat.{add-zero}
 use native.Mathlib.Omega.{arith}
 use lib.ListN.{length, getD, take, drop, length-map, List·getD-map}
 use lib.Seq.{drop-drop}
@@ -61,7 +61,7 @@ column-at s w j h = go (entryOf (drop (bodiesAt j) s)) (entries-at s j (entryOf 
     go : (e : Entry) → getD (entries s) j (entryOf []) ≡ e → ColumnAt s j e
     go e is =
         let p : Placed (rowsIn s) (columnsIn s) 0 j (entries s) e =
-              rw is at (placed (rowsIn s) (columnsIn s) 0 j (entries s) (entryOf []) (w .contents) (rw (length-entries s) h)) in
+        rw is at (placed (rowsIn s) (columnsIn s) 0 j (entries s) (entryOf []) (w .contents) (rw (length-entries s) h)) in
         record {
           cost = List·getD-map costOf (entries s) j (entryOf []) ∙ ap costOf is;
           body =

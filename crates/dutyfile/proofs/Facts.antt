@@ -1,16 +1,17 @@
 -- What it means that the tests pass: the facts about the numbers, and back.
 use mathlib.Core.Path.{_≡_, refl, _∙_}
 use mathlib.Core.Bool.{Bool, true, false, _&&_}
-use mathlib.Core.List.{List, _∷_}
+use mathlib.Core.List.{List, [], _∷_, map}
 use Prim.Native.Nat.{ℕ, _+_, _≤_}
+use native.Mathlib.Omega.{arith}
 use lib.Dec.{leb}
-use lib.ListN.{length, take}
+use lib.ListN.{length, take, length-drop}
 use borrow.Author.Tests.{leb-true, eqb-true, le-leb, eq-eqb}
 use Rattle.endian.specs.Bytes.{same}
 use Rattle.refusals.specs.Refusals.{Fault, fine, ask, _then_}
 use Rattle.refusals.proofs.Laws.{both, asked, goes-on, passes}
 use Rattle.dutyfile.specs.declared.Entry.{Entry}
-use Rattle.dutyfile.specs.File.{magic, rowsIn, columnsIn, bodiesAt, entries, parse, sum}
+use Rattle.dutyfile.specs.File.{magic, rowsIn, columnsIn, bodiesAt, entries, sizeOf, parse, sum}
 use Rattle.dutyfile.specs.Faults.{within, countsFault, columnFault, entryFault, entriesFault, headerFault, contentsFault, endFault, rowsFault, fileFault}
 
 pub all-pass : {a b : Fault} → a ≡ fine → b ≡ fine → (a then b) ≡ fine
@@ -80,6 +81,14 @@ pub fine-entry : (m n t : ℕ) (e : Entry) (es : List Entry) → Entered m n t e
 unfolding entriesFault entryFault
 fine-entry m n t e es h = all-pass (all-pass (h .column) (passes 7 (eq-eqb _ _ (h .start)))) (h .rest)
 
+-- entries that pass have at most 4,096 rows in all
+pub entries-small : (m n t : ℕ) (es : List Entry) → entriesFault m n t es ≡ fine → t ≤ 4096 → t + sum (map sizeOf es) ≤ 4096
+unfolding sum
+entries-small m n t [] p h = omega arith
+entries-small m n t (e ∷ es) p h =
+    let f = entry-fine m n t e es p in
+    omega (arith, entries-small m n (t + e .size) es (f .rest) (column-fine m t (e .cost) (e .size) (f .column) .total))
+
 -- the header
 pub record Header (s : List ℕ) : Type 0 where
   pub long : 8 ≤ length s
@@ -109,6 +118,15 @@ pub record Walked (s : List ℕ) : Type 0 where
 pub walk-fine : (s : List ℕ) → headerFault s ≡ fine → contentsFault s ≡ fine → endFault s ≡ fine → Walked s
 unfolding contentsFault endFault
 walk-fine s h c e = record { header = header-fine s h; contents = c; end = eqb-true _ _ (asked _ 8 e) }
+
+pub contents-small : (s : List ℕ) → contentsFault s ≡ fine → sum (parse s .lengths) ≤ 4096
+unfolding contentsFault parse
+contents-small s c = omega (arith, entries-small (rowsIn s) (columnsIn s) 0 (entries s) c (omega arith))
+
+-- there are as many row numbers as the lengths say
+pub length-numbers : (s : List ℕ) → Walked s → length (parse s .numbers) ≡ sum (parse s .lengths)
+unfolding parse
+length-numbers s w = simp length-drop (omega (arith, w .end))
 
 -- an accepted file
 pub record Accepted (s : List ℕ) : Type 0 where

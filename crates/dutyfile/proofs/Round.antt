@@ -2,23 +2,23 @@
 -- Both go entry by entry: 8 bytes make an entry again, and an entry's three numbers make its 8 bytes again.
 use mathlib.Core.Path.{_≡_, refl, ap, sym, _∙_}
 use mathlib.Core.Bool.{true}
-use mathlib.Core.List.{List, [], _∷_, _++_, map, append-assoc}
-use Prim.Native.Nat.{ℕ, zero, suc, _+_, _-_, _*_, _≤_, _<_}
-use native.Mathlib.Nat.{add-assoc, add-zero, zero-add}
+use mathlib.Core.List.{List, [], _∷_, _++_, map}
+use Prim.Native.Nat.{ℕ, zero, suc, _+_, _*_, _≤_, _<_}
+use native.Mathlib.Nat.{add-zero}
 use native.Mathlib.Omega.{arith}
-use borrow.Author.Tests.{eq-eqb, eqb-true, le-leb}
+use borrow.Author.Tests.{eq-eqb, eqb-true}
 use lib.ListN.{length, getD, take, drop, length-append, length-map, length-drop}
-use lib.Seq.{drop-cons, drop-drop, drop-append-add, drop-at, getD-drop, getD-take}
+use lib.Seq.{drop-cons, drop-drop, drop-at, getD-drop, getD-take}
 use Rattle.endian.specs.Bytes.{same, at16, at32, bytes16, bytes32}
 use Rattle.endian.proofs.Round.{join16-split, join32-split, split16-join, split32-join, same-true}
-use Rattle.refusals.specs.Refusals.{fine, ask, _then_, Outcome, accepted, unless}
+use Rattle.refusals.specs.Refusals.{fine, accepted}
 use Rattle.refusals.proofs.Laws.{both, asked, accepts, passes}
 use Rattle.dutyfile.specs.declared.Entry.{Entry}
 use Rattle.dutyfile.specs.declared.Shape.{Shape}
 use Rattle.dutyfile.specs.File.{Lists, magic, rowsIn, columnsIn, bodiesAt, entryOf, entriesOf, entries, costOf, sizeOf, parse, contents, header, render, sum, bodies}
 use Rattle.dutyfile.specs.Faults.{countsFault, columnFault, entriesFault, columnsFault, bodiesFault, rowsFault, fileFault, listsFault, reading, writing}
 use Rattle.dutyfile.proofs.Entries.{length-entries}
-use Rattle.dutyfile.proofs.Facts.{all-pass, within-asks, Counts, counts-fine, Column, column-fine, entry-fine, fine-entry, Accepted, file-fine, fine-file}
+use Rattle.dutyfile.proofs.Facts.{all-pass, within-asks, Counts, counts-fine, Column, column-fine, entry-fine, fine-entry, length-numbers, Accepted, file-fine, fine-file}
 
 -- From lists to a file and back.
 
@@ -197,7 +197,7 @@ entries-bytes m n t (suc k) b y h p =
     let there : 8 * suc k ≡ 8 + 8 * k = omega arith in
     let rest = entries-bytes m n (t + z) k (drop 8 b) (drop-bytes 8 b y) (simp length-drop (omega arith)) (f .rest) in
     let next : contents (bodiesAt n + t + z) (map costOf (entriesOf k (drop 8 b))) (map sizeOf (entriesOf k (drop 8 b))) ++ drop (8 * suc k) b ≡ drop 8 b =
-          rw (here, there, ← drop-drop (8 * k) 8 b) rest in
+    rw (here, there, ← drop-drop (8 * k) 8 b) rest in
     ap (λ (r : List ℕ). bytes32 (at32 b 0) ++ bytes16 (bodiesAt n + t) ++ bytes16 z ++ r) next
     ∙ ap (λ (a : ℕ). bytes32 (at32 b 0) ++ bytes16 a ++ bytes16 z ++ drop 8 b) (sym (f .start))
     ∙ entry-bytes b y (omega arith)
@@ -206,7 +206,7 @@ header-bytes : (s : List ℕ) → Bytes s → 8 ≤ length s → same (take 4 s)
 unfolding header Bytes
 header-bytes s k h e =
     let m : magic ≡ getD s 0 0 ∷ getD s 1 0 ∷ getD s 2 0 ∷ getD s 3 0 ∷ [] =
-          rw (first 0 (omega arith), first 1 (omega arith), first 2 (omega arith), first 3 (omega arith)) in
+    rw (first 0 (omega arith), first 1 (omega arith), first 2 (omega arith), first 3 (omega arith)) in
     joined (drop 8 s) m (split16-join _ _ (k 4) (k 5)) (split16-join _ _ (k 6) (k 7)) ∙ sym (front s h)
   where
     first : (i : ℕ) → i < 4 → getD s i 0 ≡ getD magic i 0
@@ -242,9 +242,6 @@ module _ (s : List ℕ) (y : Bytes s) (a : Accepted s) where
       let h = a .walked .header in
       rw (length-costs, after-front) (header-bytes s y (h .long) (h .marked))
 
-  left : length s - bodiesAt (columnsIn s) ≡ sum (parse s .lengths)
-  left = omega (arith, a .walked .end)
-
   lists-pass : listsFault (parse s) ≡ fine
   unfolding listsFault countsFault rowsFault parse
   lists-pass =
@@ -252,7 +249,7 @@ module _ (s : List ℕ) (y : Bytes s) (a : Accepted s) where
       all-pass (rw length-costs (all-pass (within-asks 1 64 _ 2 (h .counts .rows)) (within-asks 1 256 _ 2 (h .counts .columns))))
       (all-pass (passes 13 (eq-eqb _ _ (length-lengths ∙ sym length-costs)))
       (all-pass (columns-pass (rowsIn s) (columnsIn s) 0 (entries s) (a .walked .contents))
-      (all-pass (passes 13 (eq-eqb _ _ (length-drop (bodiesAt (columnsIn s)) s ∙ left)))
+      (all-pass (passes 13 (eq-eqb _ _ (length-numbers s (a .walked))))
       (a .rising))))
 
 -- Writing the lists read from an accepted file passes the writer's tests and gives its bytes, all of them.

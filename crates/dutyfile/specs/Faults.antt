@@ -93,12 +93,13 @@ listsFault d =
 abbrev pub room : ℕ → ℕ → Fault
 room needed places = ask (leb needed places) 10
 
+-- the reader's lists hold n, n and t places at least
+unfoldable pub roomsFault : Shape → ℕ → ℕ → ℕ → Fault
+roomsFault found c l r = room (found .columns) c then room (found .columns) l then room (found .entries) r
+
 -- reading a file, where the three lent lists hold c, l and r places
 unfoldable pub reading : List ℕ → ℕ → ℕ → ℕ → Outcome Shape
-reading s c l r =
-    unless
-    (fileFault s then room (columnsIn s) c then room (columnsIn s) l then room (sum (parse s .lengths)) r)
-    (shape s)
+reading s c l r = unless (fileFault s then roomsFault (shape s) c l r) (shape s)
 
 -- writing lists, where the lent buffer holds k places: the file's length
 unfoldable pub writing : Lists → ℕ → Outcome ℕ

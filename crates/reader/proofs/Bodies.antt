@@ -1,13 +1,13 @@
 -- The walk over the bodies: those that are left come to what all of them come to, and each is the part of the file that its entry says.
 use mathlib.Core.Path.{_≡_, refl, ap, sym, _∙_}
 use mathlib.Core.Bool.{Bool, true, false}
-use mathlib.Core.List.{List, [], _∷_, map}
+use mathlib.Core.List.{List, [], _∷_}
 use Prim.Native.Nat.{ℕ, _+_, _-_, _≤_, _<_}
 use native.Mathlib.Numerals.{add-one}
 use native.Mathlib.Omega.{arith}
-use lib.ListN.{length, getD, take, drop, length-map, drop-of-length-le}
+use lib.ListN.{length, take, drop, length-map, drop-of-length-le}
 use lib.Seq.{drop-cons}
-use Rattle.refusals.specs.Refusals.{Fault, fine, fault}
+use Rattle.refusals.specs.Refusals.{fine, fault}
 use Rattle.refusals.proofs.Laws.{stops-at, goes-on, passes, fails}
 use Rattle.dutyfile.specs.declared.Entry.{Entry}
 use Rattle.dutyfile.specs.File.{rowsIn, columnsIn, bodiesAt, entryOf, entries, sizeOf, parse, bodies}

@@ -1,15 +1,15 @@
 -- The walk over the contents: the entries that are left, with the rows so far, come to what the whole contents come to.
-use mathlib.Core.Path.{_≡_, refl, ap, sym, _∙_}
+use mathlib.Core.Path.{_≡_, ap, sym, _∙_}
 use mathlib.Core.List.{List, [], _∷_, map}
 use Prim.Native.Nat.{ℕ, _+_, _≤_, _<_}
 use native.Mathlib.Nat.{add-assoc, add-zero, zero-add}
 use native.Mathlib.Omega.{arith}
-use lib.ListN.{length, drop}
-use Rattle.refusals.specs.Refusals.{Fault, fine, fault, Outcome, accepted, refused, unless, _then_}
+use lib.ListN.{drop}
+use Rattle.refusals.specs.Refusals.{fine, fault, Outcome, accepted, refused, unless}
 use Rattle.refusals.proofs.Laws.{both, stops-at, goes-on}
 use Rattle.dutyfile.specs.declared.Entry.{Entry}
 use Rattle.dutyfile.specs.File.{rowsIn, columnsIn, bodiesAt, entryOf, entries, sizeOf, parse, sum}
-use Rattle.dutyfile.specs.Faults.{headerFault, contentsFault, entryFault, entriesFault, columnFault}
+use Rattle.dutyfile.specs.Faults.{headerFault, contentsFault, entryFault, entriesFault}
 use Rattle.dutyfile.proofs.Entries.{entries-step, entries-end}
 use Rattle.dutyfile.proofs.Facts.{Header, header-fine, column-fine}
 

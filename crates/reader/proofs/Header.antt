@@ -6,7 +6,7 @@ use Prim.Native.Nat.{ℕ, _≤_, _<_}
 use lib.ListN.{length, take}
 use borrow.Author.Tests.{le-leb, lt-leb}
 use Rattle.endian.specs.Bytes.{same}
-use Rattle.refusals.specs.Refusals.{Fault, fine, fault}
+use Rattle.refusals.specs.Refusals.{fine, fault}
 use Rattle.refusals.proofs.Laws.{stops-at, goes-on, passes, fails}
 use Rattle.dutyfile.specs.File.{magic, rowsIn, columnsIn, bodiesAt}
 use Rattle.dutyfile.specs.Faults.{countsFault, headerFault}

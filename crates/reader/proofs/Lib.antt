@@ -1,3 +1,6 @@
 mod Header
 mod Entries
 mod Bodies
+mod Examined
+mod Filled
+mod Rooms

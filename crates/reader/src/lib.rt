@@ -8,7 +8,7 @@ ghost use Prim.Native.Nat.{_+_, _*_, _≤_};
 ghost use lib.ListN.{length, drop};
 ghost use Rattle.refusals.specs.Refusals.{fine, faultOf, unless, front, filled};
 ghost use Rattle.dutyfile.specs.File.{rowsIn, columnsIn, parse, shape, sum};
-ghost use Rattle.dutyfile.specs.Faults.{headerFault, contentsFault, endFault, rowsFault, fileFault, reading};
+ghost use Rattle.dutyfile.specs.Faults.{headerFault, contentsFault, endFault, rowsFault, fileFault, roomsFault, reading};
 ghost use Rattle.reader.specs.Answer.{readOutcome, contentsOutcome};
 
 // What reading a file comes to.
@@ -140,6 +140,88 @@ pub fn examine(file: &[u8]) -> ReadAnswer
             match contents {
                 Contents::Failed(why) => ReadAnswer::Refused(why),
                 Contents::Rows(total) => examine_bodies(file, total),
+            }
+        }
+    }
+}
+
+// The costs of all columns, at the front of a list.
+fn fill_costs(file: &[u8], costs: &mut [u32])
+    requires { ⌜ headerFault (now file) ≡ fine ⌝ }
+    requires { ⌜ columnsIn (now file) ≤ length (now costs) ⌝ }
+    ensures { λ _. ⌜ now (costs .exit) ≡ front (parse (now (file .entry)) .costs) (now (costs .entry)) ⌝ }
+{
+    let columns = column_count(file);
+    let mut j = 0;
+    while j < columns {
+        let e = dutyfile::entry_at(file, j);
+        costs[j] = e.cost;
+        j += 1;
+    }
+}
+
+// Their body lengths.
+fn fill_lengths(file: &[u8], lengths: &mut [u16])
+    requires { ⌜ headerFault (now file) ≡ fine ⌝ }
+    requires { ⌜ columnsIn (now file) ≤ length (now lengths) ⌝ }
+    ensures { λ _. ⌜ now (lengths .exit) ≡ front (parse (now (file .entry)) .lengths) (now (lengths .entry)) ⌝ }
+{
+    let columns = column_count(file);
+    let mut j = 0;
+    while j < columns {
+        let e = dutyfile::entry_at(file, j);
+        lengths[j] = e.size;
+        j += 1;
+    }
+}
+
+// The row numbers of all bodies.
+fn fill_rows(file: &[u8], rows: &mut [u8])
+    requires { ⌜ headerFault (now file) ≡ fine ⌝ }
+    requires { ⌜ length (parse (now file) .numbers) ≤ length (now rows) ⌝ }
+    ensures { λ _. ⌜ now (rows .exit) ≡ front (parse (now (file .entry)) .numbers) (now (rows .entry)) ⌝ }
+{
+    let start = 8 + 8 * column_count(file);
+    let end = file.len();
+    endian::put(rows, 0, &file[start..end]);
+}
+
+// 10, for lists of so many places.
+fn check_rooms(found: Shape, costs: usize, lengths: usize, rows: usize) -> Check
+    ensures { λ r. ⌜ faultOf r ≡ roomsFault found costs lengths rows ⌝ }
+{
+    if costs < found.columns {
+        return Check::Failed(Refusal::Room);
+    }
+    if lengths < found.columns {
+        return Check::Failed(Refusal::Room);
+    }
+    if rows < found.entries {
+        return Check::Failed(Refusal::Room);
+    }
+    Check::Passed
+}
+
+// Reads a duty file: m, n and t, with the front of each list filled; or a refusal, with every list as it was.
+pub fn read(file: &[u8], costs: &mut [u32], lengths: &mut [u16], rows: &mut [u8]) -> ReadAnswer
+    ensures { λ r. ⌜ readOutcome r ≡ reading (now (file .entry)) (length (now (costs .entry))) (length (now (lengths .entry))) (length (now (rows .entry))) ⌝ }
+    ensures { λ r. ⌜ now (costs .exit) ≡ filled (readOutcome r) (parse (now (file .entry)) .costs) (now (costs .entry)) ⌝ }
+    ensures { λ r. ⌜ now (lengths .exit) ≡ filled (readOutcome r) (parse (now (file .entry)) .lengths) (now (lengths .entry)) ⌝ }
+    ensures { λ r. ⌜ now (rows .exit) ≡ filled (readOutcome r) (parse (now (file .entry)) .numbers) (now (rows .entry)) ⌝ }
+{
+    let found = examine(file);
+    match found {
+        ReadAnswer::Refused(_) => found,
+        ReadAnswer::Accepted(shape) => {
+            let room = check_rooms(shape, costs.len(), lengths.len(), rows.len());
+            match room {
+                Check::Failed(why) => ReadAnswer::Refused(why),
+                Check::Passed => {
+                    fill_costs(file, costs);
+                    fill_lengths(file, lengths);
+                    fill_rows(file, rows);
+                    found
+                }
             }
         }
     }

@@ -1,11 +1,10 @@
 -- Sequences of tests: how a caller goes on after a test, and what it means that all of them pass.
 use mathlib.Core.Path.{_≡_, refl, sym, _∙_}
 use mathlib.Core.Bool.{Bool, true, false}
-use mathlib.Core.List.{List, _++_}
-use lib.ListN.{length, drop}
+use mathlib.Core.List.{List}
 use Prim.Native.Nat.{ℕ}
 use native.Mathlib.Omega.{arith}
-use Rattle.refusals.specs.Refusals.{Fault, fine, fault, ask, _then_, numberOf, faultOf, Outcome, accepted, refused, unless, filled}
+use Rattle.refusals.specs.Refusals.{Fault, fine, fault, ask, _then_, numberOf, faultOf, Outcome, accepted, refused, unless, front, filled}
 use Rattle.refusals.specs.declared.Refusal.{Refusal}
 use Rattle.refusals.specs.declared.Check.{Check}
 use Rattle.refusals.specs.declared.Check.the-variants.{Passed, Failed}
@@ -59,3 +58,26 @@ pub accepts : {A : Type 0} (f : Fault) (a b : A) → unless f a ≡ accepted b �
 unfolding unless
 accepts fine a b e = (refl, cc)
 accepts (fault k) a b e = absurd (let z : _≡_ {A = ℕ} 0 1 = cc in omega arith)
+
+pub refuses : {A : Type 0} (f : Fault) (a : A) (k : ℕ) → unless f a ≡ refused k → f ≡ fault k
+unfolding unless
+refuses fine a k e = absurd (let z : _≡_ {A = ℕ} 0 1 = cc in omega arith)
+refuses (fault j) a k e = let q : j ≡ k = cc in rw q
+
+-- and the other way round
+pub unless-fine : {A : Type 0} {f : Fault} (a : A) → f ≡ fine → accepted a ≡ unless f a
+unfolding unless
+unless-fine a e = rw e
+
+pub unless-fault : {A : Type 0} {f : Fault} (a : A) (k : ℕ) → f ≡ fault k → refused k ≡ unless f a
+unfolding unless
+unless-fault a k e = rw e
+
+-- a list that a call fills or leaves, by the call's outcome
+pub fills : {A : Type 0} {o : Outcome A} (a : A) (new old : List ℕ) → o ≡ accepted a → filled o new old ≡ front new old
+unfolding filled
+fills a new old e = rw e
+
+pub keeps : {A : Type 0} {o : Outcome A} (k : ℕ) (new old : List ℕ) → o ≡ refused k → old ≡ filled o new old
+unfolding filled
+keeps k new old e = rw e

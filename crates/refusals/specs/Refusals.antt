@@ -35,7 +35,6 @@ ask true k = fine
 ask false k = fault k
 
 infixr 5 _then_
-
 -- tests in sequence: the first fault counts
 unfoldable pub _then_ : Fault → Fault → Fault
 fine then b = b

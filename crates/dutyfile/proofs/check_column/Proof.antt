@@ -4,8 +4,6 @@ use Rattle.dutyfile.specs.Faults.{columnFault}
 use borrow.Author.Needs.{needs}
 use Rattle.dutyfile.proofs.check_column.Statement.{statement}
 use Rattle.dutyfile.proofs.check_column.Tie as tie
-use Rattle.dutyfile.proofs.check_column.Reads as reads
-use Rattle.dutyfile.proofs.check_column.Lts as lts
 
 returns : tie.Need-returns
 unfolding faultOf columnFault ask _then_
@@ -23,7 +21,6 @@ returns-4 : tie.Need-returns-4
 unfolding faultOf columnFault ask _then_
 returns-4 c = simp (columnFault, le-leb _ _ (c .before .before .before .if1 .left), le-leb _ _ (c .before .before .if2 .left), le-leb _ _ (c .before .if3 .left), lt-leb _ _ (c .if4 .taken))
 
--- src/lib.rt:78:15
 add-if5 : tie.Need-add-if5
 add-if5 c = search needs
 

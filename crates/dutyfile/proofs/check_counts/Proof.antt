@@ -3,8 +3,6 @@ use Rattle.refusals.specs.Refusals.{faultOf, ask, _then_}
 use Rattle.dutyfile.specs.Faults.{countsFault}
 use Rattle.dutyfile.proofs.check_counts.Statement.{statement}
 use Rattle.dutyfile.proofs.check_counts.Tie as tie
-use Rattle.dutyfile.proofs.check_counts.Reads as reads
-use Rattle.dutyfile.proofs.check_counts.Lts as lts
 
 returns : tie.Need-returns
 unfolding faultOf countsFault ask _then_

@@ -7,35 +7,25 @@ use Rattle.dutyfile.specs.Faults.{entryFault}
 use borrow.Author.Needs.{needs}
 use Rattle.dutyfile.proofs.check_entry.Statement.{statement}
 use Rattle.dutyfile.proofs.check_entry.Tie as tie
-use Rattle.dutyfile.proofs.check_entry.Reads as reads
-use Rattle.dutyfile.proofs.check_entry.Lts as lts
-use Rattle.dutyfile.proofs.check_column.Reads as check-column-reads
 
--- src/lib.rt:89:9
 check-column-requires : tie.Need-check-column-requires
 check-column-requires c κs = search needs
 
--- src/lib.rt:91:29
 enum-told : tie.Need-enum-told
 enum-told c = search needs
 
--- src/lib.rt:93:16
 enum-told-2 : tie.Need-enum-told-2
 enum-told-2 c = search needs
 
--- src/lib.rt:93:16
 cast-if1 : tie.Need-cast-if1
 cast-if1 c = search needs
 
--- src/lib.rt:93:40
 mul-if1 : tie.Need-mul-if1
 mul-if1 c = search needs
 
--- src/lib.rt:93:36
 add-if1 : tie.Need-add-if1
 add-if1 c = search needs
 
--- src/lib.rt:93:36
 add-if1-2 : tie.Need-add-if1-2
 add-if1-2 c = search needs
 

@@ -3,36 +3,25 @@ use Rattle.dutyfile.proofs.Entries.{entry-made}
 use borrow.Author.Needs.{needs}
 use Rattle.dutyfile.proofs.entry_at.Statement.{statement}
 use Rattle.dutyfile.proofs.entry_at.Tie as tie
-use Rattle.dutyfile.proofs.entry_at.Reads as reads
-use Rattle.dutyfile.proofs.entry_at.Lts as lts
-use Rattle.endian.proofs.get16.Reads as get16-reads
-use Rattle.endian.proofs.get32.Reads as get32-reads
 
--- src/lib.rt:33:18
 mul-at : tie.Need-mul-at
 mul-at c = search needs
 
--- src/lib.rt:33:14
 add-at : tie.Need-add-at
 add-at c = search needs
 
--- src/lib.rt:35:15
 get32-requires : tie.Need-get32-requires
 get32-requires c κs = search needs
 
--- src/lib.rt:36:36
 add-get16 : tie.Need-add-get16
 add-get16 c = search needs
 
--- src/lib.rt:36:16
 get16-requires : tie.Need-get16-requires
 get16-requires c κs = search needs
 
--- src/lib.rt:37:35
 add-get16-2 : tie.Need-add-get16-2
 add-get16-2 c = search needs
 
--- src/lib.rt:37:15
 get16-requires-2 : tie.Need-get16-requires-2
 get16-requires-2 c κs = search needs
 

@@ -7,8 +7,6 @@ use Rattle.dutyfile.specs.Faults.{rising}
 use Rattle.dutyfile.proofs.Rising.{rising-low, rising-high, rising-step, rising-end}
 use Rattle.dutyfile.proofs.is_rising.Statement.{statement}
 use Rattle.dutyfile.proofs.is_rising.Tie as tie
-use Rattle.dutyfile.proofs.is_rising.Reads as reads
-use Rattle.dutyfile.proofs.is_rising.Lts as lts
 
 abbrev Inv-loop : tie.InvT-loop
 Inv-loop body rows last₀ i₀ last i = (i ≤ length body) × (rising last rows (drop i body) ≡ rising 0 rows body)

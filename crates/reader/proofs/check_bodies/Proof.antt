@@ -1,5 +1,4 @@
 -- The bodies that are left come to what all of them come to.
-use mathlib.Core.Path.{sym, _∙_}
 use Prim.Native.Nat.{_-_}
 use native.Mathlib.Omega.{arith}
 use borrow.Author.Needs.{needs}
@@ -10,12 +9,6 @@ use Rattle.dutyfile.proofs.Columns.{ColumnAt}
 use Rattle.reader.proofs.Bodies.{Testing, testing-start, testing-column, testing-stop, testing-next, testing-end}
 use Rattle.reader.proofs.check_bodies.Statement.{statement}
 use Rattle.reader.proofs.check_bodies.Tie as tie
-use Rattle.reader.proofs.check_bodies.Reads as reads
-use Rattle.reader.proofs.check_bodies.Lts as lts
-use Rattle.dutyfile.proofs.entry_at.Reads as entry-at-reads
-use Rattle.dutyfile.proofs.is_rising.Reads as is-rising-reads
-use Rattle.reader.proofs.column_count.Reads as column-count-reads
-use Rattle.reader.proofs.row_count.Reads as row-count-reads
 
 abbrev Inv-loop : tie.InvT-loop
 Inv-loop file rows columns j₀ j = Testing file rows columns j

@@ -1,5 +1,4 @@
 -- The entries that are left, with the rows so far, come to what the whole contents come to.
-use mathlib.Core.Path.{sym, _∙_}
 use Prim.Native.Nat.{_+_, _-_}
 use native.Mathlib.Omega.{arith}
 use borrow.Author.Needs.{needs}
@@ -9,12 +8,6 @@ use Rattle.reader.specs.Answer.{contentsOutcome}
 use Rattle.reader.proofs.Entries.{Walking, walking-start, walking-stop, walking-next, walking-end}
 use Rattle.reader.proofs.check_contents.Statement.{statement}
 use Rattle.reader.proofs.check_contents.Tie as tie
-use Rattle.reader.proofs.check_contents.Reads as reads
-use Rattle.reader.proofs.check_contents.Lts as lts
-use Rattle.dutyfile.proofs.check_entry.Reads as check-entry-reads
-use Rattle.dutyfile.proofs.entry_at.Reads as entry-at-reads
-use Rattle.reader.proofs.column_count.Reads as column-count-reads
-use Rattle.reader.proofs.row_count.Reads as row-count-reads
 
 abbrev Inv-loop : tie.InvT-loop
 Inv-loop file rows columns total₀ j₀ total j = Walking file rows columns total j

@@ -17,12 +17,6 @@ use Rattle.reader.proofs.Header.{header-short, header-other, header-cou
 use borrow.Author.Needs.{needs}
 use Rattle.reader.proofs.check_header.Statement.{statement}
 use Rattle.reader.proofs.check_header.Tie as tie
-use Rattle.reader.proofs.check_header.Reads as reads
-use Rattle.reader.proofs.check_header.Lts as lts
-use Rattle.dutyfile.proofs.check_counts.Reads as check-counts-reads
-use Rattle.endian.proofs.equal.Reads as equal-reads
-use Rattle.reader.proofs.column_count.Reads as column-count-reads
-use Rattle.reader.proofs.row_count.Reads as row-count-reads
 
 returns : tie.Need-returns
 unfolding faultOf
@@ -44,23 +38,18 @@ counts c = rw (c .before .row-count .ensures, c .before .before .column-count .e
 few : (c : tie.After-check-counts) → c .check-counts .result ≡ Passed → c .before .before .column-count .result ≤ 256
 few c e = omega (arith, counts-fine _ _ (passed (counts c) e) .columns .most, c .before .before .column-count .ensures)
 
--- src/lib.rt:51:23
 sub-equal : tie.Need-sub-equal
 sub-equal c = search needs
 
--- src/lib.rt:51:23
 part-equal-start : tie.Need-part-equal-start
 part-equal-start c = search needs
 
--- src/lib.rt:51:23
 part-equal-end : tie.Need-part-equal-end
 part-equal-end c = search needs
 
--- src/lib.rt:51:36
 slice-aggregate-equal : tie.Need-slice-aggregate-equal
 slice-aggregate-equal c = search needs
 
--- src/lib.rt:51:9
 equal-requires : tie.Need-equal-requires
 equal-requires c κs = search needs
 
@@ -69,23 +58,18 @@ unfolding faultOf
 returns-2 c =
     header-other _ (c .before .before .before .before .if1 .left) (sym (c .before .equal .ensures) ∙ not-true _ (c .if2 .taken))
 
--- src/lib.rt:54:9
 column-count-requires : tie.Need-column-count-requires
 column-count-requires c κs = search needs
 
--- src/lib.rt:55:41
 row-count-requires : tie.Need-row-count-requires
 row-count-requires c κs = search needs
 
--- src/lib.rt:55:9
 check-counts-requires : tie.Need-check-counts-requires
 check-counts-requires c κs = search needs
 
--- src/lib.rt:57:29
 enum-told : tie.Need-enum-told
 enum-told c = search needs
 
--- src/lib.rt:59:16
 enum-told-2 : tie.Need-enum-told-2
 enum-told-2 c = search needs
 
