@@ -16,7 +16,7 @@ use Rattle.refusals.proofs.Laws.{both, asked, accepts, passes}
 use Rattle.dutyfile.specs.declared.Entry.{Entry}
 use Rattle.dutyfile.specs.declared.Shape.{Shape}
 use Rattle.dutyfile.specs.File.{Lists, magic, rowsIn, columnsIn, bodiesAt, entryOf, entriesOf, entries, costOf, sizeOf, parse, contents, header, render, sum, bodies}
-use Rattle.dutyfile.specs.Faults.{countsFault, columnFault, entriesFault, columnsFault, bodiesFault, rowsFault, fileFault, listsFault, reading, writing}
+use Rattle.dutyfile.specs.Faults.{countsFault, columnFault, entriesFault, columnsFault, bodiesFault, rowsFault, fileFault, numbersFault, listsFault, reading, writing}
 use Rattle.dutyfile.proofs.Entries.{length-entries}
 use Rattle.dutyfile.proofs.Facts.{all-pass, within-asks, Counts, counts-fine, Column, column-fine, entry-fine, fine-entry, length-numbers, Accepted, file-fine, fine-file}
 
@@ -58,7 +58,7 @@ module _ (m n : ℕ) (counts : Counts m n) (rest : List ℕ) where
       (entry-back c (bodiesAt n + t) l (contents (bodiesAt n + t + l) cs ls ++ rest) cost place size)
       (rw later (columns-back (t + l) cs ls (omega arith) (f .total) (q .1)))
 
-length-contents : (a : ℕ) (cs ls : List ℕ) → length ls ≡ length cs → length (contents a cs ls) ≡ 8 * length cs
+pub length-contents : (a : ℕ) (cs ls : List ℕ) → length ls ≡ length cs → length (contents a cs ls) ≡ 8 * length cs
 unfolding contents
 length-contents a [] ls e = refl
 length-contents a (c ∷ cs) [] e = absurd (omega arith)
@@ -73,7 +73,7 @@ pub record Passing (d : Lists) : Type 0 where
   pub bodies : bodiesFault (d .rows) (Rattle.dutyfile.specs.File.bodies (d .lengths) (d .numbers)) ≡ fine
 
 pub lists-fine : (d : Lists) → listsFault d ≡ fine → Passing d
-unfolding listsFault
+unfolding listsFault numbersFault
 lists-fine d e =
     let a = both _ _ e in
     let b = both _ _ (a .1) in
@@ -243,7 +243,7 @@ module _ (s : List ℕ) (y : Bytes s) (a : Accepted s) where
       rw (length-costs, after-front) (header-bytes s y (h .long) (h .marked))
 
   lists-pass : listsFault (parse s) ≡ fine
-  unfolding listsFault countsFault rowsFault parse
+  unfolding listsFault numbersFault countsFault rowsFault parse
   lists-pass =
       let h = a .walked .header in
       all-pass (rw length-costs (all-pass (within-asks 1 64 _ 2 (h .counts .rows)) (within-asks 1 256 _ 2 (h .counts .columns))))

@@ -80,14 +80,19 @@ fileFault s =
     then endFault s
     then rowsFault s
 
+-- 13 for the row numbers against t; 9
+unfoldable pub numbersFault : ℕ → List ℕ → List ℕ → Fault
+numbersFault m lengths numbers =
+    ask (eqb (length numbers) (sum lengths)) 13
+    then bodiesFault m (bodies lengths numbers)
+
 -- the writer's lists: 2; 13; 4, 5, 6 column by column; 13; 9
 unfoldable pub listsFault : Lists → Fault
 listsFault d =
     countsFault (d .rows) (length (d .costs))
     then ask (eqb (length (d .lengths)) (length (d .costs))) 13
     then columnsFault (d .rows) 0 (d .costs) (d .lengths)
-    then ask (eqb (length (d .numbers)) (sum (d .lengths))) 13
-    then bodiesFault (d .rows) (bodies (d .lengths) (d .numbers))
+    then numbersFault (d .rows) (d .lengths) (d .numbers)
 
 -- 10: a lent list that holds fewer places than it must
 abbrev pub room : ℕ → ℕ → Fault

@@ -48,6 +48,9 @@ pub record Lists : Type 0 where
   pub lengths : List ℕ
   pub numbers : List ℕ
 
+abbrev pub lists : ℕ → List ℕ → List ℕ → List ℕ → Lists
+lists m costs lengths numbers = record { rows = m; costs = costs; lengths = lengths; numbers = numbers }
+
 -- the lists that a file holds
 unfoldable pub parse : List ℕ → Lists
 parse s = record {
@@ -57,11 +60,15 @@ parse s = record {
   numbers = drop (bodiesAt (columnsIn s)) s;
 }
 
+-- the 8 bytes of an entry
+abbrev pub entryBytes : ℕ → ℕ → ℕ → List ℕ
+entryBytes c at l = bytes32 c ++ bytes16 at ++ bytes16 l
+
 -- the contents for given costs and body lengths, with the first body at a place
 unfoldable pub contents : ℕ → List ℕ → List ℕ → List ℕ
 contents at [] ls = []
 contents at (c ∷ cs) [] = []
-contents at (c ∷ cs) (l ∷ ls) = bytes32 c ++ bytes16 at ++ bytes16 l ++ contents (at + l) cs ls
+contents at (c ∷ cs) (l ∷ ls) = entryBytes c at l ++ contents (at + l) cs ls
 
 -- the first 8 bytes
 unfoldable pub header : ℕ → ℕ → List ℕ

@@ -25,6 +25,13 @@ pub struct Shape {
     pub entries: usize,
 }
 
+// What a walk over the contents comes to.
+pub enum Contents {
+    // The number of row numbers in all bodies, 01's t.
+    Rows(usize),
+    Failed(Refusal),
+}
+
 // Entry j of a file.
 pub fn entry_at(file: &[u8], j: usize) -> Entry
     requires { ⌜ (j ≤ 255) × (16 + 8 * j ≤ length (now file)) ⌝ }

@@ -1,5 +1,5 @@
 -- The walk over the bodies: those that are left come to what all of them come to, and each is the part of the file that its entry says.
-use mathlib.Core.Path.{_≡_, refl, ap, sym, _∙_}
+use mathlib.Core.Path.{_≡_, ap, sym, _∙_}
 use mathlib.Core.Bool.{Bool, true, false}
 use mathlib.Core.List.{List, [], _∷_}
 use Prim.Native.Nat.{ℕ, _+_, _-_, _≤_, _<_}
@@ -8,10 +8,10 @@ use native.Mathlib.Omega.{arith}
 use lib.ListN.{length, take, drop, length-map, drop-of-length-le}
 use lib.Seq.{drop-cons}
 use Rattle.refusals.specs.Refusals.{fine, fault}
-use Rattle.refusals.proofs.Laws.{stops-at, goes-on, passes, fails}
 use Rattle.dutyfile.specs.declared.Entry.{Entry}
 use Rattle.dutyfile.specs.File.{rowsIn, columnsIn, bodiesAt, entryOf, entries, sizeOf, parse, bodies}
 use Rattle.dutyfile.specs.Faults.{rising, headerFault, contentsFault, endFault, bodiesFault, rowsFault}
+use Rattle.dutyfile.proofs.Rising.{bodies-stop, bodies-next, bodies-none}
 use Rattle.dutyfile.proofs.Entries.{length-entries}
 use Rattle.dutyfile.proofs.Facts.{Walked, walk-fine}
 use Rattle.dutyfile.proofs.Columns.{ColumnAt, column-at, length-bodies}
@@ -19,18 +19,6 @@ use Rattle.dutyfile.proofs.Columns.{ColumnAt, column-at, length-bodies}
 -- the bodies of a file
 abbrev fileBodies : List ℕ → List (List ℕ)
 fileBodies s = bodies (parse s .lengths) (parse s .numbers)
-
-bodies-stop : (m : ℕ) (b : List ℕ) (bs : List (List ℕ)) → rising 0 m b ≡ false → bodiesFault m (b ∷ bs) ≡ fault 9
-unfolding bodiesFault
-bodies-stop m b bs e = stops-at 9 _ (fails 9 e)
-
-bodies-next : (m : ℕ) (b : List ℕ) (bs : List (List ℕ)) → rising 0 m b ≡ true → bodiesFault m (b ∷ bs) ≡ bodiesFault m bs
-unfolding bodiesFault
-bodies-next m b bs e = goes-on _ (passes 9 e)
-
-bodies-none : (m : ℕ) → bodiesFault m [] ≡ fine
-unfolding bodiesFault
-bodies-none m = refl
 
 -- at body j
 pub record Testing (s : List ℕ) (rows columns j : ℕ) : Type 0 where

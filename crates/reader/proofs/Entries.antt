@@ -6,7 +6,7 @@ use native.Mathlib.Nat.{add-assoc, add-zero, zero-add}
 use native.Mathlib.Omega.{arith}
 use lib.ListN.{drop}
 use Rattle.refusals.specs.Refusals.{fine, fault, Outcome, accepted, refused, unless}
-use Rattle.refusals.proofs.Laws.{both, stops-at, goes-on}
+use Rattle.refusals.proofs.Laws.{both, outcome-stops, outcome-goes-on}
 use Rattle.dutyfile.specs.declared.Entry.{Entry}
 use Rattle.dutyfile.specs.File.{rowsIn, columnsIn, bodiesAt, entryOf, entries, sizeOf, parse, sum}
 use Rattle.dutyfile.specs.Faults.{headerFault, contentsFault, entryFault, entriesFault}
@@ -24,11 +24,11 @@ walk-all s = rw zero-add
 module _ (m n t : ℕ) (e : Entry) (es : List Entry) where
   walk-stop : (k : ℕ) → entryFault m n t e ≡ fault k → walk m n t (e ∷ es) ≡ refused k
   unfolding walk entriesFault unless
-  walk-stop k h = rw (stops-at k (entriesFault m n (t + e .size) es) h)
+  walk-stop k h = outcome-stops _ _ k h
 
   walk-next : entryFault m n t e ≡ fine → walk m n t (e ∷ es) ≡ walk m n (t + e .size) es
   unfolding walk entriesFault sum
-  walk-next h = rw (goes-on (entriesFault m n (t + e .size) es) h, add-assoc)
+  walk-next h = outcome-goes-on _ _ h ∙ rw add-assoc
 
 walk-end : (m n t : ℕ) → walk m n t [] ≡ accepted t
 unfolding walk entriesFault sum unless

@@ -2,21 +2,17 @@
 use mathlib.Core.Path.{_≡_, refl, _∙_}
 use mathlib.Core.List.{List, _∷_, map}
 use Prim.Native.Nat.{ℕ, _+_, _-_, _≤_, _<_}
-use native.Mathlib.Nat.{zero-add}
 use native.Mathlib.Numerals.{add-one}
 use native.Mathlib.Omega.{arith}
 use lib.ListN.{length, take, drop, set, length-set, length-map, length-drop}
-use lib.Seq.{sets, sets-eq, take-all}
+use lib.Seq.{sets, take-all}
 use Rattle.refusals.specs.Refusals.{fine, front}
+use Rattle.refusals.proofs.Laws.{front-sets}
 use Rattle.dutyfile.specs.declared.Entry.{Entry}
 use Rattle.dutyfile.specs.File.{columnsIn, bodiesAt, entryOf, entries, parse}
 use Rattle.dutyfile.specs.Faults.{headerFault}
 use Rattle.dutyfile.proofs.Entries.{length-entries, entries-step, entries-end}
 use Rattle.dutyfile.proofs.Facts.{Header, header-fine}
-
-pub front-sets : (new old : List ℕ) → length new ≤ length old → sets old 0 new ≡ front new old
-unfolding front
-front-sets new old h = rw (sets-eq new old 0 (omega arith), zero-add)
 
 -- at entry j, with f of each entry to be stored
 pub record Filling (f : Entry → ℕ) (s old : List ℕ) (columns : ℕ) (out : List ℕ) (j : ℕ) : Type 0 where

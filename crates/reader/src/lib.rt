@@ -1,4 +1,5 @@
 // The reader: a file is tested whole, and only then are the lent lists filled.
+use dutyfile::Contents;
 use dutyfile::Shape;
 use refusals::Check;
 use refusals::Refusal;
@@ -9,19 +10,13 @@ ghost use lib.ListN.{length, drop};
 ghost use Rattle.refusals.specs.Refusals.{fine, faultOf, unless, front, filled};
 ghost use Rattle.dutyfile.specs.File.{rowsIn, columnsIn, parse, shape, sum};
 ghost use Rattle.dutyfile.specs.Faults.{headerFault, contentsFault, endFault, rowsFault, fileFault, roomsFault, reading};
-ghost use Rattle.reader.specs.Answer.{readOutcome, contentsOutcome};
+ghost use Rattle.dutyfile.specs.Answer.{contentsOutcome};
+ghost use Rattle.reader.specs.Answer.{readOutcome};
 
 // What reading a file comes to.
 pub enum ReadAnswer {
     Accepted(Shape),
     Refused(Refusal),
-}
-
-// What the walk over the contents comes to.
-pub enum Contents {
-    // The number of row numbers in all bodies, 01's t.
-    Rows(usize),
-    Failed(Refusal),
 }
 
 // 01's m.

@@ -2,7 +2,10 @@
 use mathlib.Core.Path.{_≡_, refl, sym, _∙_}
 use mathlib.Core.Bool.{Bool, true, false}
 use mathlib.Core.List.{List}
-use Prim.Native.Nat.{ℕ}
+use Prim.Native.Nat.{ℕ, _≤_}
+use native.Mathlib.Nat.{zero-add}
+use lib.ListN.{length}
+use lib.Seq.{sets, sets-eq}
 use native.Mathlib.Omega.{arith}
 use Rattle.refusals.specs.Refusals.{Fault, fine, fault, ask, _then_, numberOf, faultOf, Outcome, accepted, refused, unless, front, filled}
 use Rattle.refusals.specs.declared.Refusal.{Refusal}
@@ -73,6 +76,18 @@ pub unless-fault : {A : Type 0} {f : Fault} (a : A) (k : ℕ) → f ≡ fault k 
 unfolding unless
 unless-fault a k e = rw e
 
+-- a walk's outcome, at an element whose test fails or passes
+pub outcome-stops : {A : Type 0} {f : Fault} (g : Fault) (a : A) (k : ℕ) → f ≡ fault k → unless (f then g) a ≡ refused k
+outcome-stops g a k e = sym (unless-fault a k (stops-at k g e))
+
+pub outcome-goes-on : {A : Type 0} {f : Fault} (g : Fault) (a : A) → f ≡ fine → unless (f then g) a ≡ unless g a
+outcome-goes-on g a e = rw (goes-on g e)
+
+-- a list whose first places are set, one after another
+pub front-sets : (new old : List ℕ) → length new ≤ length old → sets old 0 new ≡ front new old
+unfolding front
+front-sets new old h = rw (sets-eq new old 0 (omega arith), zero-add)
+
 -- a list that a call fills or leaves, by the call's outcome
 pub fills : {A : Type 0} {o : Outcome A} (a : A) (new old : List ℕ) → o ≡ accepted a → filled o new old ≡ front new old
 unfolding filled
@@ -81,3 +96,9 @@ fills a new old e = rw e
 pub keeps : {A : Type 0} {o : Outcome A} (k : ℕ) (new old : List ℕ) → o ≡ refused k → old ≡ filled o new old
 unfolding filled
 keeps k new old e = rw e
+
+-- the answer matters only where the tests pass
+pub unless-same : {A : Type 0} (f : Fault) (a b : A) → (f ≡ fine → a ≡ b) → unless f a ≡ unless f b
+unfolding unless
+unless-same fine a b e = rw (e refl)
+unless-same (fault k) a b e = refl

@@ -4,7 +4,7 @@ use native.Mathlib.Omega.{arith}
 use borrow.Author.Needs.{needs}
 use Rattle.refusals.proofs.Laws.{failed, passed}
 use Rattle.dutyfile.proofs.Facts.{header-fine}
-use Rattle.reader.specs.Answer.{contentsOutcome}
+use Rattle.dutyfile.specs.Answer.{contentsOutcome}
 use Rattle.reader.proofs.Entries.{Walking, walking-start, walking-stop, walking-next, walking-end}
 use Rattle.reader.proofs.check_contents.Statement.{statement}
 use Rattle.reader.proofs.check_contents.Tie as tie

@@ -1,7 +1,8 @@
 -- The tests go stage by stage; each way out is one of the definition's.
 use mathlib.Core.Path.{sym}
 use Rattle.refusals.proofs.Laws.{failed, passed, accepts, refuses}
-use Rattle.reader.specs.Answer.{readOutcome, contentsOutcome}
+use Rattle.dutyfile.specs.Answer.{contentsOutcome}
+use Rattle.reader.specs.Answer.{readOutcome}
 use Rattle.reader.proofs.Examined.{header-fails, contents-fail}
 use borrow.Author.Needs.{needs}
 use Rattle.reader.proofs.examine.Statement.{statement}

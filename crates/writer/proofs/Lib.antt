@@ -1,0 +1,4 @@
+mod Columns
+mod Bodies
+mod Puts
+mod Tested

@@ -1,0 +1,124 @@
+-- The ways out of the lists' tests, stage by stage, and of writing once they are done.
+use mathlib.Core.Path.{_≡_, refl, ap, sym, _∙_}
+use mathlib.Core.List.{List, [], _∷_}
+use Prim.Native.Nat.{ℕ, _+_, _≤_, _<_}
+use native.Mathlib.Omega.{arith}
+use lib.ListN.{length}
+use lib.Seq.{sets}
+use borrow.Author.Tests.{eq-eqb, ne-eqb, eqb-true, le-leb, lt-leb}
+use Rattle.refusals.specs.Refusals.{fine, fault, Outcome, accepted, refused, unless, front, numberOf}
+use Rattle.refusals.specs.declared.Refusal.{Refusal}
+use Rattle.refusals.proofs.Laws.{both, asked, stops-at, goes-on, passes, fails, unless-fine, unless-fault, unless-same, accepts, refuses, front-sets}
+use Rattle.dutyfile.specs.File.{Lists, lists, bodiesAt, header, contents, render, sum, bodies}
+use Rattle.dutyfile.specs.Faults.{countsFault, columnsFault, bodiesFault, numbersFault, listsFault, writing}
+use Rattle.dutyfile.proofs.Facts.{column-fine}
+use Rattle.dutyfile.proofs.Round.{Passing, length-render, length-contents}
+use Rattle.writer.specs.declared.WriteAnswer.{WriteAnswer}
+use Rattle.writer.specs.declared.WriteAnswer.the-variants.{Refused}
+use Rattle.writer.specs.Answer.{writeOutcome}
+use Rattle.writer.proofs.Puts.{three-runs}
+
+pub refused-is : (r : WriteAnswer) (w : Refusal) → r ≡ Refused w → writeOutcome r ≡ refused (numberOf w)
+unfolding writeOutcome
+refused-is r w e = rw e
+
+-- columns that pass have at most 4,096 rows in all
+pub columns-small : (m t : ℕ) (cs ls : List ℕ) → length ls ≡ length cs → t ≤ 4096 → columnsFault m t cs ls ≡ fine → t + sum ls ≤ 4096
+unfolding sum columnsFault
+columns-small m t [] [] e h p = omega arith
+columns-small m t [] (l ∷ ls) e h p = absurd (omega arith)
+columns-small m t (c ∷ cs) [] e h p = absurd (omega arith)
+columns-small m t (c ∷ cs) (l ∷ ls) e h p =
+    let b = both _ _ p in
+    omega (arith, columns-small m (t + l) cs ls (omega arith) (column-fine m t c l (b .0) .total) (b .1))
+
+-- the row numbers
+module _ (m : ℕ) (ls ns : List ℕ) (size : ℕ) where
+  pub numbers-differ : (total : ℕ) → total ≡ sum ls → (length ns ≡ total → ⊥) → refused 13 ≡ unless (numbersFault m ls ns) size
+  unfolding numbersFault
+  numbers-differ total e h = unless-fault _ 13 (stops-at 13 _ (fails 13 (ne-eqb _ _ (λ q. h (q ∙ sym e)))))
+
+  module _ (same : length ns ≡ sum ls) where
+    pub bodies-fail : (k : ℕ) → bodiesFault m (bodies ls ns) ≡ fault k → refused k ≡ unless (numbersFault m ls ns) size
+    unfolding numbersFault
+    bodies-fail k e = unless-fault _ k (goes-on _ (passes 13 (eq-eqb _ _ same)) ∙ e)
+
+    pub bodies-pass : bodiesFault m (bodies ls ns) ≡ fine → accepted size ≡ unless (numbersFault m ls ns) size
+    unfolding numbersFault
+    bodies-pass e = unless-fine _ (goes-on _ (passes 13 (eq-eqb _ _ same)) ∙ e)
+
+numbers-count : (m : ℕ) (ls ns : List ℕ) → numbersFault m ls ns ≡ fine → length ns ≡ sum ls
+unfolding numbersFault
+numbers-count m ls ns e = eqb-true _ _ (asked _ 13 (both _ _ e .0))
+
+tests-left : (m : ℕ) (cs ls ns : List ℕ) → countsFault m (length cs) ≡ fine → length ls ≡ length cs → columnsFault m 0 cs ls ≡ fine →
+    listsFault (lists m cs ls ns) ≡ numbersFault m ls ns
+unfolding listsFault
+tests-left m cs ls ns counts same e = goes-on _ counts ∙ goes-on _ (passes 13 (eq-eqb _ _ same)) ∙ goes-on _ e
+
+-- what the lists' tests come to
+abbrev pub tested : Lists → Outcome ℕ
+tested d = unless (listsFault d) (length (render d))
+
+module _ (m : ℕ) (cs ls ns : List ℕ) where
+  pub counts-fail : (k : ℕ) → countsFault m (length cs) ≡ fault k → refused k ≡ tested (lists m cs ls ns)
+  unfolding listsFault
+  counts-fail k e = unless-fault _ k (stops-at k _ e)
+
+  module _ (counts : countsFault m (length cs) ≡ fine) where
+    pub lengths-differ : (length ls ≡ length cs → ⊥) → refused 13 ≡ tested (lists m cs ls ns)
+    unfolding listsFault
+    lengths-differ h = unless-fault _ 13 (goes-on _ counts ∙ stops-at 13 _ (fails 13 (ne-eqb _ _ h)))
+
+    module _ (same : length ls ≡ length cs) where
+      pub columns-fail : (k : ℕ) → columnsFault m 0 cs ls ≡ fault k → refused k ≡ tested (lists m cs ls ns)
+      unfolding listsFault
+      columns-fail k e = unless-fault _ k (goes-on _ counts ∙ goes-on _ (passes 13 (eq-eqb _ _ same)) ∙ stops-at k _ e)
+
+      pub columns-pass : columnsFault m 0 cs ls ≡ fine → unless (numbersFault m ls ns) (bodiesAt (length cs) + sum ls) ≡ tested (lists m cs ls ns)
+      columns-pass e = unless-same (numbersFault m ls ns) _ _ size ∙ ap (λ f. unless f (length (render (lists m cs ls ns)))) (sym rest)
+        where
+          size : numbersFault m ls ns ≡ fine → bodiesAt (length cs) + sum ls ≡ length (render (lists m cs ls ns))
+          size f = omega (arith, length-render (lists m cs ls ns) same, numbers-count m ls ns f)
+
+          rest : listsFault (lists m cs ls ns) ≡ numbersFault m ls ns
+          rest = tests-left m cs ls ns counts same e
+
+-- writing, once the tests are done
+module _ (d : Lists) (k : ℕ) where
+  pub writing-refused : (j : ℕ) → refused j ≡ tested d → refused j ≡ writing d k
+  unfolding writing
+  writing-refused j e = unless-fault _ j (stops-at j _ (refuses _ _ j (sym e)))
+
+  module _ (size : ℕ) (e : accepted size ≡ tested d) where
+    pub writing-size : size ≡ length (render d)
+    writing-size = sym (accepts _ _ _ (sym e) .1)
+
+    pub writing-fine : listsFault d ≡ fine
+    writing-fine = accepts _ _ _ (sym e) .0
+
+    pub writing-short : k < size → refused 10 ≡ writing d k
+    unfolding writing
+    writing-short h = unless-fault _ 10 (goes-on _ writing-fine ∙ fails 10 (lt-leb _ _ (rw writing-size at h)))
+
+    pub writing-done : size ≤ k → accepted size ≡ writing d k
+    unfolding writing
+    writing-done h = rw writing-size (unless-fine _ (goes-on _ writing-fine ∙ passes 10 (le-leb _ _ (rw writing-size at h))))
+
+-- the file from its three parts
+module _ (d : Lists) (p : Passing d) where
+  pub file-room : length (render d) ≡ bodiesAt (length (d .costs)) + length (d .numbers)
+  file-room = length-render d (p .same)
+
+  pub file-small : sum (d .lengths) ≤ 4096
+  file-small = omega (arith, columns-small (d .rows) 0 (d .costs) (d .lengths) (p .same) (omega arith) (p .columns))
+
+  pub file-written : (out x y z : List ℕ) → length (render d) ≤ length out →
+      x ≡ sets out 0 (header (d .rows) (length (d .costs))) → y ≡ sets x 8 (contents (bodiesAt (length (d .costs))) (d .costs) (d .lengths)) →
+      z ≡ sets y (bodiesAt (length (d .costs))) (d .numbers) → z ≡ front (render d) out
+  unfolding render header
+  file-written out x y z h e f g =
+      let n : ℕ = length (d .costs) in
+      let q : bodiesAt n ≡ 8 + length (contents (bodiesAt n) (d .costs) (d .lengths)) = omega (arith, length-contents (bodiesAt n) (d .costs) (d .lengths) (p .same)) in
+      three-runs 0 8 (bodiesAt n) (header (d .rows) n) (contents (bodiesAt n) (d .costs) (d .lengths)) (d .numbers) out x y z e f g refl q
+      ∙ front-sets (render d) out h

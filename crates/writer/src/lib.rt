@@ -1,0 +1,169 @@
+// The writer: the lists are tested whole, and only then is the lent buffer written.
+use dutyfile::Contents;
+use refusals::Check;
+use refusals::Refusal;
+ghost use mathlib.Core.Path.{_≡_};
+ghost use Prim.Native.Nat.{_+_, _*_, _≤_, _<_};
+ghost use lib.ListN.{length};
+ghost use lib.Seq.{sets};
+ghost use Rattle.refusals.specs.Refusals.{fine, faultOf, unless, front, filled};
+ghost use Rattle.dutyfile.specs.File.{bodiesAt, lists, header, entryBytes, contents, render, sum, bodies};
+ghost use Rattle.dutyfile.specs.Faults.{columnsFault, bodiesFault, numbersFault, listsFault, writing};
+ghost use Rattle.dutyfile.specs.Answer.{contentsOutcome};
+ghost use Rattle.writer.specs.Answer.{writeOutcome};
+
+// What writing a file comes to.
+pub enum WriteAnswer {
+    // The file's length.
+    Written(usize),
+    Refused(Refusal),
+}
+
+// 4, 5, 6 column by column.
+fn check_columns(rows: usize, costs: &[u32], lengths: &[u16]) -> Contents
+    requires { ⌜ length (now lengths) ≡ length (now costs) ⌝ }
+    ensures { λ r. ⌜ contentsOutcome r ≡ unless (columnsFault rows 0 (now (costs .entry)) (now (lengths .entry))) (sum (now (lengths .entry))) ⌝ }
+{
+    let mut total = 0;
+    let mut j = 0;
+    while j < costs.len() {
+        let tested = dutyfile::check_column(rows, total, costs[j], lengths[j]);
+        if let Check::Failed(why) = tested {
+            return Contents::Failed(why);
+        }
+        total += lengths[j] as usize;
+        j += 1;
+    }
+    Contents::Rows(total)
+}
+
+// 9: each body is the next part of the row numbers.
+fn check_bodies(rows: usize, lengths: &[u16], numbers: &[u8]) -> Check
+    requires { ⌜ length (now numbers) ≡ sum (now lengths) ⌝ }
+    ensures { λ r. ⌜ faultOf r ≡ bodiesFault rows (bodies (now (lengths .entry)) (now (numbers .entry))) ⌝ }
+{
+    let mut start = 0;
+    let mut j = 0;
+    while j < lengths.len() {
+        let end = start + lengths[j] as usize;
+        if !dutyfile::is_rising(&numbers[start..end], rows) {
+            return Check::Failed(Refusal::Row);
+        }
+        start = end;
+        j += 1;
+    }
+    Check::Passed
+}
+
+// Entry j of the contents.
+fn put_entry(out: &mut [u8], j: usize, cost: u32, start: u16, size: u16)
+    requires { ⌜ (j < 256) × (16 + 8 * j ≤ length (now out)) ⌝ }
+    ensures { λ _. ⌜ now (out .exit) ≡ sets (now (out .entry)) (bodiesAt j) (entryBytes cost start size) ⌝ }
+{
+    let at = 8 + 8 * j;
+    endian::put32(out, at, cost);
+    endian::put16(out, at + 4, start);
+    endian::put16(out, at + 6, size);
+}
+
+// The contents, with the first body after them.
+fn put_contents(out: &mut [u8], costs: &[u32], lengths: &[u16])
+    requires { ⌜ (length (now costs) ≤ 256) × (length (now lengths) ≡ length (now costs)) ⌝ }
+    requires { ⌜ sum (now lengths) ≤ 4096 ⌝ }
+    requires { ⌜ bodiesAt (length (now costs)) ≤ length (now out) ⌝ }
+    ensures { λ _. ⌜ now (out .exit) ≡ sets (now (out .entry)) 8 (contents (bodiesAt (length (now (costs .entry)))) (now (costs .entry)) (now (lengths .entry))) ⌝ }
+{
+    let mut start = 8 + 8 * costs.len();
+    let mut j = 0;
+    while j < costs.len() {
+        put_entry(out, j, costs[j], start as u16, lengths[j]);
+        start += lengths[j] as usize;
+        j += 1;
+    }
+}
+
+// The first 8 bytes.
+fn put_header(out: &mut [u8], rows: u16, columns: u16)
+    requires { ⌜ 8 ≤ length (now out) ⌝ }
+    ensures { λ _. ⌜ now (out .exit) ≡ sets (now (out .entry)) 0 (header rows columns) ⌝ }
+{
+    endian::put(out, 0, b"SPP1");
+    endian::put16(out, 4, rows);
+    endian::put16(out, 6, columns);
+}
+
+// 13 for the row numbers against t, then 9; the length of the file if all is well.
+fn check_numbers(
+    rows: usize,
+    columns: usize,
+    total: usize,
+    lengths: &[u16],
+    numbers: &[u8],
+) -> WriteAnswer
+    requires { ⌜ (columns ≤ 256) × (total ≤ 4096) ⌝ }
+    requires { ⌜ total ≡ sum (now lengths) ⌝ }
+    ensures { λ r. ⌜ writeOutcome r ≡ unless (numbersFault rows (now (lengths .entry)) (now (numbers .entry))) (bodiesAt columns + total) ⌝ }
+{
+    if numbers.len() != total {
+        return WriteAnswer::Refused(Refusal::Lists);
+    }
+    let bodies = check_bodies(rows, lengths, numbers);
+    match bodies {
+        Check::Failed(why) => WriteAnswer::Refused(why),
+        Check::Passed => WriteAnswer::Written(8 + 8 * columns + total),
+    }
+}
+
+// The lists' tests: 2, 13, 4 to 6, 13, 9.
+fn check_lists(rows: u16, costs: &[u32], lengths: &[u16], numbers: &[u8]) -> WriteAnswer
+    ensures { λ r. ⌜ writeOutcome r ≡ unless (listsFault (lists rows (now (costs .entry)) (now (lengths .entry)) (now (numbers .entry)))) (length (render (lists rows (now (costs .entry)) (now (lengths .entry)) (now (numbers .entry))))) ⌝ }
+{
+    let counts = dutyfile::check_counts(rows as usize, costs.len());
+    if let Check::Failed(why) = counts {
+        return WriteAnswer::Refused(why);
+    }
+    if lengths.len() != costs.len() {
+        return WriteAnswer::Refused(Refusal::Lists);
+    }
+    let columns = check_columns(rows as usize, costs, lengths);
+    match columns {
+        Contents::Failed(why) => WriteAnswer::Refused(why),
+        Contents::Rows(total) => check_numbers(rows as usize, costs.len(), total, lengths, numbers),
+    }
+}
+
+// The whole file, at the front of the buffer.
+fn put_file(rows: u16, costs: &[u32], lengths: &[u16], numbers: &[u8], out: &mut [u8])
+    requires { ⌜ listsFault (lists rows (now costs) (now lengths) (now numbers)) ≡ fine ⌝ }
+    requires { ⌜ length (render (lists rows (now costs) (now lengths) (now numbers))) ≤ length (now out) ⌝ }
+    ensures { λ _. ⌜ now (out .exit) ≡ front (render (lists rows (now (costs .entry)) (now (lengths .entry)) (now (numbers .entry)))) (now (out .entry)) ⌝ }
+{
+    let columns = costs.len();
+    put_header(out, rows, columns as u16);
+    put_contents(out, costs, lengths);
+    endian::put(out, 8 + 8 * columns, numbers);
+}
+
+// Writes a duty file: its length, with the file at the front of the buffer; or a refusal, with the buffer as it was.
+pub fn write(
+    rows: u16,
+    costs: &[u32],
+    lengths: &[u16],
+    numbers: &[u8],
+    out: &mut [u8],
+) -> WriteAnswer
+    ensures { λ r. ⌜ writeOutcome r ≡ writing (lists rows (now (costs .entry)) (now (lengths .entry)) (now (numbers .entry))) (length (now (out .entry))) ⌝ }
+    ensures { λ r. ⌜ now (out .exit) ≡ filled (writeOutcome r) (render (lists rows (now (costs .entry)) (now (lengths .entry)) (now (numbers .entry)))) (now (out .entry)) ⌝ }
+{
+    let tested = check_lists(rows, costs, lengths, numbers);
+    match tested {
+        WriteAnswer::Refused(_) => tested,
+        WriteAnswer::Written(size) => {
+            if out.len() < size {
+                return WriteAnswer::Refused(Refusal::Room);
+            }
+            put_file(rows, costs, lengths, numbers, out);
+            tested
+        }
+    }
+}
