@@ -1,1 +1,15 @@
-
+pub mod Walks
+pub mod Members
+pub mod Sums
+pub mod Plans
+pub mod Decide
+pub mod Steps
+pub mod Rows
+pub mod Forcing
+pub mod Variants
+pub mod Visits
+pub mod Demand
+pub mod Costs
+pub mod Reducing
+pub mod Sum
+pub mod Loops

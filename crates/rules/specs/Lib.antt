@@ -3,6 +3,7 @@ pub mod Instance
 pub mod Node
 pub mod Reduce
 pub mod Force
+pub mod Identity
 pub mod Search
 pub mod Tree
 pub mod Files

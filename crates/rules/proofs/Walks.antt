@@ -1,0 +1,250 @@
+-- What a walk comes to, whatever the nodes are: it keeps only what is allowed, never gets dearer, and ends with the cheapest there is.
+-- To use it, prove `Lawful` of each visit. Nothing here knows of rows, costs of columns, forcing or the criteria of choice.
+use mathlib.Core.Path.{_≡_, refl, sym, _∙_, fun-ext}
+use mathlib.Core.Bool.{Bool, true, false, false≢true}
+use mathlib.Core.List.{List, [], _∷_, _++_}
+use mathlib.Core.Logic.{_⊎_, ⊎-elim}
+use Prim.Native.Nat.{ℕ, zero, suc, _+_, _^_, _≤_, _<_}
+use native.Mathlib.Omega.{arith}
+use lib.ListN.{getD, length-append, List·getD-eq-default}
+use lib.Dec.{ltb}
+use borrow.Author.Tests.{leb-true, leb-false, ltb-true, ltb-false, lt-ltb, le-ltb}
+use Rattle.rules.specs.Search.{Incumbent, nothing, plan, reaches, improve, Visit, ended, full, split, Walk, second, enter, walk, Answer, best, none, stopped, finished, after, nodes, answerBy, answerOf, shownBy}
+
+-- a plan is kept, at c or less
+abbrev pub AtMost : Incumbent → ℕ → Type 0
+AtMost nothing c = ⊥
+AtMost (plan d js) c = d ≤ c
+
+-- m is no dearer than k, and there if k is
+abbrev pub NoDearer : Incumbent → Incumbent → Type 0
+NoDearer k m = (c : ℕ) → AtMost k c → AtMost m c
+
+pub at-most-le : (k : Incumbent) {b c : ℕ} → AtMost k b → b ≤ c → AtMost k c
+at-most-le nothing h l = h
+at-most-le (plan d js) h l = omega arith
+
+pub reaches-true : (k : Incumbent) (b : ℕ) → reaches b k ≡ true → AtMost k b
+unfolding reaches
+reaches-true nothing b e = false≢true e
+reaches-true (plan d js) b e = leb-true d b e
+
+reaches-false : (k : Incumbent) (b c : ℕ) → reaches b k ≡ false → AtMost k c → b ≤ c
+unfolding reaches
+reaches-false (plan d js) b c e h = omega (arith, leb-false d b e)
+reaches-false nothing b c e h = absurd h
+
+-- choices of which some are allowed, their price, and which lists show one of a given price
+module _ {C : Type 0} (Ok : C → Type 0) (price : C → ℕ) (Shows : ℕ → List ℕ → Type 0) where
+  -- what is kept shows an allowed choice
+  abbrev pub Valid : Incumbent → Type 0
+  Valid nothing = Unit {0}
+  Valid (plan c js) = Shows c js
+
+  -- m kept after k
+  pub record Better (k m : Incumbent) : Type 0 where
+    pub no-dearer : NoDearer k m
+    pub valid : Valid m
+
+  self : {k : Incumbent} → Valid k → Better k k
+  self v = record { no-dearer = λ c h. h; valid = v }
+
+  trans : {k m e : Incumbent} → Better k m → Better m e → Better k e
+  trans f g = record { no-dearer = λ c h. g .no-dearer c (f .no-dearer c h); valid = g .valid }
+
+  -- from k to e by way of a list, each better than the one before
+  pub data Falls : Incumbent → List Incumbent → Incumbent → Type 0 where
+    last : {k e : Incumbent} → Better k e → Falls k [] e
+    then : {k x e : Incumbent} {xs : List Incumbent} → Better k x → Falls x xs e → Falls k (x ∷ xs) e
+
+  falls-end : {k e : Incumbent} {xs : List Incumbent} → Falls k xs e → Better k e
+  falls-end (last b) = b
+  falls-end (then b r) = trans b (falls-end r)
+
+  falls-first : {k m e : Incumbent} {ys : List Incumbent} → Better k m → Falls m ys e → Falls k ys e
+  falls-first b (last c) = last (trans b c)
+  falls-first b (then c r) = then (trans b c) r
+
+  falls-join : {k m e : Incumbent} {xs ys : List Incumbent} → Falls k xs m → Falls m ys e → Falls k (xs ++ ys) e
+  falls-join (last b) g = falls-first b g
+  falls-join (then b r) g = then b (falls-join r g)
+
+  falls-at : {k e : Incumbent} {xs : List Incumbent} (i : ℕ) → Falls k xs e → Better k (getD xs i e)
+  falls-at i (last b) = b
+  falls-at zero (then b r) = b
+  falls-at (suc i) (then b r) = trans b (falls-at i r)
+
+  falls-on : {k e : Incumbent} {xs : List Incumbent} (i j : ℕ) → i ≤ j → Falls k xs e → NoDearer (getD xs i e) (getD xs j e)
+  falls-on i j l (last b) = λ c g. g
+  falls-on zero zero l (then b r) = λ c g. g
+  falls-on zero (suc j) l (then b r) = falls-at j r .no-dearer
+  falls-on (suc i) zero l (then b r) = absurd (omega arith)
+  falls-on (suc i) (suc j) l (then b r) = falls-on i j (omega arith) r
+
+  -- What the answers say of a walk w from the root, with the root's bound b and the allowance a.
+  pub record Best (w : Walk) (b a c d n : ℕ) (js : List ℕ) : Type 0 where
+    pub shown : Shows c js
+    pub cheapest : (X : C) → Ok X → c ≤ price X
+    pub bound : d ≡ b
+    pub count : n ≡ nodes w
+    pub within : nodes w ≤ a
+
+  pub record None (w : Walk) (a n : ℕ) : Type 0 where
+    pub no-plan : (X : C) → Ok X → ⊥
+    pub count : n ≡ nodes w
+    pub within : nodes w ≤ a
+
+  pub record Stopped (w : Walk) (b a : ℕ) (k : Incumbent) (d n : ℕ) : Type 0 where
+    pub shown : Valid k
+    pub kept : k ≡ after w a
+    pub bound : d ≡ b
+    pub count : n ≡ a
+    pub beyond : a < nodes w
+
+  abbrev pub Meets : Walk → ℕ → ℕ → Answer → Type 0
+  Meets w b a (best c d n js) = Best w b a c d n js
+  Meets w b a (none n) = None w a n
+  Meets w b a (stopped k d n) = Stopped w b a k d n
+
+  module _ (w : Walk) (b a : ℕ) (falls : Falls nothing (w .entries) (w .end)) (cheapest : (X : C) → Ok X → AtMost (w .end) (price X)) where
+    finished-meets : (k : Incumbent) → Valid k → ((X : C) → Ok X → AtMost k (price X)) → nodes w ≤ a → Meets w b a (finished k b (nodes w))
+    unfolding finished
+    finished-meets nothing v h l = record { no-plan = h; count = refl; within = l }
+    finished-meets (plan c js) v h l = record { shown = v; cheapest = h; bound = refl; count = refl; within = l }
+
+    meets-by : (t : Bool) → ltb a (nodes w) ≡ t → Meets w b a (answerBy t w b a)
+    unfolding answerBy after
+    meets-by true e = record { shown = falls-at a falls .valid; kept = refl; bound = refl; count = refl; beyond = ltb-true a (nodes w) e }
+    meets-by false e = finished-meets (w .end) (falls-end falls .valid) cheapest (ltb-false a (nodes w) e)
+
+    pub answer-meets : Meets w b a (answerOf w b a)
+    unfolding answerOf
+    answer-meets = meets-by (ltb a (nodes w)) refl
+
+  -- the other way round: which answer it is
+  module _ (w : Walk) (b a : ℕ) where
+    pub stopped-when : a < nodes w → answerOf w b a ≡ stopped (after w a) b a
+    unfolding answerOf answerBy
+    stopped-when l = rw (lt-ltb a (nodes w) l)
+
+    pub finished-when : nodes w ≤ a → answerOf w b a ≡ finished (w .end) b (nodes w)
+    unfolding answerOf answerBy
+    finished-when l = rw (le-ltb a (nodes w) l)
+
+    pub none-when : nodes w ≤ a → Falls nothing (w .entries) (w .end) → ((c : ℕ) (js : List ℕ) → Shows c js → ⊥) → answerOf w b a ≡ none (nodes w)
+    unfolding finished
+    none-when l f h = finished-when l ∙ go (w .end) (falls-end f .valid)
+      where
+        go : (k : Incumbent) → Valid k → finished k b (nodes w) ≡ none (nodes w)
+        go nothing v = refl
+        go (plan c js) v = absurd (h c js v)
+
+    -- an answer shows what is kept after as many nodes as are allowed
+    pub shown-is : shownBy (answerOf w b a) ≡ after w a
+    unfolding answerOf answerBy shownBy finished after
+    shown-is = go (ltb a (nodes w)) refl
+      where
+        end-is : (k : Incumbent) → shownBy (finished k b (nodes w)) ≡ k
+        end-is nothing = refl
+        end-is (plan c js) = refl
+
+        go : (t : Bool) → ltb a (nodes w) ≡ t → shownBy (answerBy t w b a) ≡ after w a
+        go true e = refl
+        go false e = end-is (w .end) ∙ sym (List·getD-eq-default (w .entries) (w .end) (ltb-false a (nodes w) e))
+
+  -- a larger allowance never shows a dearer plan and never loses the plan
+  pub longer : (w : Walk) (b : ℕ) → Falls nothing (w .entries) (w .end) → (i j : ℕ) → i ≤ j → NoDearer (shownBy (answerOf w b i)) (shownBy (answerOf w b j))
+  unfolding after
+  longer w b f i j l = rw (shown-is w b i, shown-is w b j) (falls-on i j l f)
+
+  -- nodes: which are good, how many columns are free, and which choices complete them
+  module _ {S : Type 0} (Good : S → Type 0) (size : S → ℕ) (Completion : S → C → Type 0) where
+    -- s split into a and z: nothing is lost, and all of z costs b or more
+    pub record Splits (s a z : S) (b : ℕ) : Type 0 where
+      pub good-a : Good a
+      pub good-z : Good z
+      pub less-a : size a < size s
+      pub less-z : size z < size s
+      pub two : 2 ≤ size s
+      pub cases : (X : C) → Completion s X → Completion a X ⊎ Completion z X
+      pub low : (X : C) → Completion z X → b ≤ price X
+
+    -- what a visit owes: where a node ends, none of its completions is improve than what is kept (it may have none)
+    abbrev pub Lawful : S → Incumbent → Visit S → Type 0
+    Lawful s k ended = (X : C) → Completion s X → AtMost k (price X)
+    Lawful s k (full c js) = Shows c js × ((X : C) → Completion s X → c ≤ price X)
+    Lawful s k (split a z b) = Splits s a z b
+
+    -- a walk from s with k kept
+    pub record Report (s : S) (k : Incumbent) (w : Walk) : Type 0 where
+      pub falls : Falls k (w .entries) (w .end)
+      pub cheapest : (X : C) → Completion s X → AtMost (w .end) (price X)
+      pub few : (m : ℕ) → size s ≤ suc m → suc (nodes w) ≤ 2 ^ suc m
+
+    one-few : (m : ℕ) → 2 ≤ 2 ^ suc m
+    one-few zero = omega arith
+    one-few (suc m) = omega (arith, one-few m)
+
+    module _ (s a z : S) (b : ℕ) (o : Splits s a z b) (k : Incumbent) (v : Valid k) where
+      two-few : (x y : ℕ) (m : ℕ) → size s ≤ suc m → ((m : ℕ) → size a ≤ suc m → suc x ≤ 2 ^ suc m) → ((m : ℕ) → size z ≤ suc m → suc y ≤ 2 ^ suc m) → suc (suc (x + y)) ≤ 2 ^ suc m
+      two-few x y zero l f g = omega (arith, o .two)
+      two-few x y (suc m) l f g = omega (arith, f m (omega (arith, o .less-a)), g m (omega (arith, o .less-z)))
+
+      second-report : (d : Walk) → Report a k d → (w : Incumbent → Walk) → ((m : Incumbent) → Valid m → Report z m (w m))
+          → (t : Bool) → reaches b (d .end) ≡ t → Report s k (second t k d w)
+      unfolding second
+      second-report d r w q true e = record {
+        falls = then (self v) (r .falls);
+        cheapest = λ X h. ⊎-elim (r .cheapest X) (λ g. at-most-le (d .end) (reaches-true (d .end) b e) (o .low X g)) (o .cases X h);
+        few = λ m l. omega (arith, two-few (nodes d) 1 m l (r .few) (λ n g. one-few n));
+      }
+      second-report d r w q false e =
+          let y : Walk = w (d .end) in
+          let g : Report z (d .end) y = q (d .end) (falls-end (r .falls) .valid) in
+          record {
+            falls = then (self v) (falls-join (r .falls) (g .falls));
+            cheapest = λ X h. ⊎-elim (λ j. falls-end (g .falls) .no-dearer (price X) (r .cheapest X j)) (g .cheapest X) (o .cases X h);
+            few = λ m l. simp length-append (two-few (nodes d) (nodes y) m l (r .few) (g .few));
+          }
+
+    full-falls : (k : Incumbent) → Valid k → (c : ℕ) (js : List ℕ) → Valid (plan c js) → (t : Bool) → reaches c k ≡ t → Better k (improve t k c js) × AtMost (improve t k c js) c
+    unfolding improve
+    full-falls k v c js h true e = (self v, reaches-true k c e)
+    full-falls k v c js h false e = (record { no-dearer = λ d l. reaches-false k c d e l; valid = h }, omega arith)
+
+    enter-report : (s : S) (k : Incumbent) → Valid k → (x : Visit S) → Lawful s k x → (w : S → Incumbent → Walk)
+        → ((t : S) (m : Incumbent) → Good t → size t < size s → Valid m → Report t m (w t m)) → Report s k (enter k x w)
+    unfolding enter
+    enter-report s k v ended l w q = record { falls = then (self v) (last (self v)); cheapest = l; few = λ m g. one-few m }
+    enter-report s k v (full c js) l w q =
+        let f = full-falls k v c js (l .0) (reaches c k) refl in
+        record { falls = then (self v) (last (f .0)); cheapest = λ X h. at-most-le (improve (reaches c k) k c js) (f .1) (l .1 X h); few = λ m g. one-few m }
+    enter-report s k v (split a z b) l w q =
+        second-report s a z b l k v (w a k) (q a k (l .good-a) (l .less-a) v) (w z) (λ m. q z m (l .good-z) (l .less-z)) (reaches b (w a k .end)) refl
+
+    module _ (visit : S → Incumbent → Visit S) (laws : (s : S) (k : Incumbent) → Good s → Lawful s k (visit s k)) where
+      pub walk-report : (f : ℕ) (s : S) (k : Incumbent) → Good s → size s < f → Valid k → Report s k (walk visit f s k)
+      unfolding walk
+      walk-report zero s k g l v = absurd (omega arith)
+      walk-report (suc f) s k g l v = enter-report s k v (visit s k) (laws s k g) (λ t m. walk visit f t m) (λ t m h i. walk-report f t m h (omega arith))
+
+      -- fuel beyond the number of free columns does not matter
+      enter-same : (s : S) (k : Incumbent) (x : Visit S) → Lawful s k x → (w u : S → Incumbent → Walk)
+          → ((t : S) (m : Incumbent) → Good t → size t < size s → w t m ≡ u t m) → enter k x w ≡ enter k x u
+      unfolding enter
+      enter-same s k ended l w u q = refl
+      enter-same s k (full c js) l w u q = refl
+      enter-same s k (split a z b) l w u q = rw (q a k (l .good-a) (l .less-a), fun-ext (λ m. q z m (l .good-z) (l .less-z)))
+
+      pub walk-enough : (f g : ℕ) (s : S) (k : Incumbent) → Good s → size s < f → size s < g → walk visit f s k ≡ walk visit g s k
+      unfolding walk
+      walk-enough (suc f) (suc g) s k h l m =
+          enter-same s k (visit s k) (laws s k h) (λ t n. walk visit f t n) (λ t n. walk visit g t n) (λ t n i j. walk-enough f g t n i (omega arith) (omega arith))
+      walk-enough zero g s k h l m = absurd (omega arith)
+      walk-enough (suc f) zero s k h l m = absurd (omega arith)
+
+      -- for a recursive function: a walk is its node entered, and the walks of the branches
+      pub walk-step : (f : ℕ) (s : S) (k : Incumbent) → Good s → size s < f → walk visit f s k ≡ enter k (visit s k) (λ t m. walk visit f t m)
+      unfolding walk
+      walk-step zero s k g l = absurd (omega arith)
+      walk-step (suc f) s k g l = enter-same s k (visit s k) (laws s k g) (λ t m. walk visit f t m) (λ t m. walk visit (suc f) t m) (λ t m h i. walk-enough f (suc f) t m h (omega arith) (omega arith))
