@@ -1,29 +1,23 @@
--- Demand 3 of the mission: of every instance and allowance, for any variant of the search that keeps its laws.
-use mathlib.Core.Path.{_≡_, refl, sym, _∙_}
-use mathlib.Core.Bool.{Bool}
+-- Demand 3 holds of every instance and node limit, for any variant of the search that keeps its laws: the walk of lawful visits keeps
+-- only what is allowed and ends with the cheapest, and the answer says what it ended with.
+use mathlib.Core.Path.{_≡_, refl}
+use mathlib.Core.Bool.{Bool, true, false, false≢true, true≢false}
 use mathlib.Core.List.{List, [], _∷_}
+use mathlib.Core.Logic.{_↔_}
 use Prim.Native.Nat.{ℕ, zero, suc, _^_, _≤_, _<_}
 use native.Mathlib.Omega.{arith}
 use Rattle.rules.specs.Instance.{Instance, Fits, width, chosen, Shows}
 use Rattle.rules.specs.declared.Node.{Node}
 use Rattle.rules.specs.Node.{isFree, freeColumns, openRows}
-use Rattle.rules.specs.Search.{Incumbent, nothing, Walk, enter, walk, nodes, after, none, stopped, shownBy}
+use Rattle.rules.specs.Search.{Incumbent, nothing, Walk, enter, walk, nodes, after, Answer, best, none, stopped, shownBy, nodesOf, isNone, isStopped}
+use Rattle.rules.specs.Demand.{Demand3}
 use Rattle.rules.specs.Tree.{Variant, visit, fullTree, boundOf, rootBound, answer}
-use Rattle.rules.proofs.Walks.{NoDearer, Report, walk-report, Meets, answer-meets, stopped-when, finished-when, none-when, longer, walk-step}
+use Rattle.rules.proofs.Walks.{Valid, Report, walk-report, Meets, answer-meets, walk-step}
 use Rattle.rules.proofs.Members.{keep-upto}
 use Rattle.rules.specs.Identity.{Completion}
 use Rattle.rules.proofs.Rows.{size}
 use Rattle.rules.proofs.Variants.{Forces, Laws, lowered-comp}
 use Rattle.rules.proofs.Visits.{Completes, visit-law}
-
--- What is asked of the answer at the allowance a. `Meets` (in Walks) says what holds of each kind of answer: the plan shown, its value, that none is
--- below it or that there is none, the bound, the node count, and on which side of the allowance the full tree lies.
-pub record Demand3 (p : Instance) (o : Variant) (Ok : (ℕ → Bool) → Type 0) (value : (ℕ → Bool) → ℕ) (a : ℕ) : Type 0 where
-  pub meets : Meets Ok value (Shows p Ok value) (fullTree o p) (rootBound o p) a (answer o p a)
-  pub bound : (X : ℕ → Bool) → Ok X → rootBound o p ≤ value X
-  pub stops : a < nodes (fullTree o p) → answer o p a ≡ stopped (after (fullTree o p) a) (rootBound o p) a
-  pub nones : nodes (fullTree o p) ≤ a → ((X : ℕ → Bool) → Ok X → ⊥) → answer o p a ≡ none (nodes (fullTree o p))
-  pub few : 1 ≤ width p → suc (nodes (fullTree o p)) ≤ 2 ^ width p
 
 module _ (p : Instance) (F : Fits p) (o : Variant) (Ok : (ℕ → Bool) → Type 0) (value : (ℕ → Bool) → ℕ) (Good : Node → Type 0) (L : Laws p o Ok value Good) where
   report : Report Ok value (Shows p Ok value) Good (size p) (Completes p Ok) (o .start) nothing (fullTree o p)
@@ -53,27 +47,68 @@ module _ (p : Instance) (F : Fits p) (o : Variant) (Ok : (ℕ → Bool) → Type
   few-nodes zero e l = absurd (omega arith)
   few-nodes (suc m) e l = report .few m (omega (arith, keep-upto (isFree (o .start)) (width p)))
 
-  pub demand-3 : (a : ℕ) → Demand3 p o Ok value a
-  unfolding answer
-  demand-3 a = record {
-    meets = answer-meets Ok value (Shows p Ok value) (fullTree o p) (rootBound o p) a (report .falls) (λ X h. report .cheapest X (h, L .start-comp X h));
-    bound = bound-low;
-    stops = stopped-when Ok value (Shows p Ok value) (fullTree o p) (rootBound o p) a;
-    nones = λ l h. none-when Ok value (Shows p Ok value) (fullTree o p) (rootBound o p) a l (report .falls) (λ c js v. h (chosen js) (v .ok));
-    few = few-nodes (width p) refl;
-  }
+  -- the demand's sentences, by cases on the answer x
+  module _ (limit : ℕ) where
+    abbrev Holds : Answer → Type 0
+    Holds x = Meets Ok value (Shows p Ok value) (fullTree o p) (rootBound o p) limit x
 
-  -- a larger allowance never shows a dearer plan, and never loses the plan
-  pub longer-runs : (a b : ℕ) → a ≤ b → NoDearer (shownBy (answer o p a)) (shownBy (answer o p b))
-  unfolding answer
-  longer-runs a b l = longer Ok value (Shows p Ok value) (fullTree o p) (rootBound o p) (report .falls) a b l
+    shows : (x : Answer) → Holds x → Valid Ok value (Shows p Ok value) (shownBy x)
+    unfolding shownBy
+    shows (best c b n js) m = m .shown
+    shows (none n) m = tt
+    shows (stopped k b n) m = m .shown
 
-  -- and once the tree fits, the answer stays
-  pub answer-stays : (a b : ℕ) → nodes (fullTree o p) ≤ a → a ≤ b → answer o p b ≡ answer o p a
-  unfolding answer
-  answer-stays a b h l =
-      finished-when Ok value (Shows p Ok value) (fullTree o p) (rootBound o p) b (omega arith)
-      ∙ sym (finished-when Ok value (Shows p Ok value) (fullTree o p) (rootBound o p) a h)
+    nones : (x : Answer) → Holds x → isStopped x ≡ false → (isNone x ≡ true) ↔ ((X : ℕ → Bool) → Ok X → ⊥)
+    unfolding isStopped isNone
+    nones (best c b n js) m e = (λ h. absurd (false≢true h), λ h. absurd (h (chosen js) (m .shown .ok)))
+    nones (none n) m e = (λ h. m .no-plan, λ h. refl)
+    nones (stopped k b n) m e = absurd (true≢false e)
+
+    stops : (x : Answer) → Holds x → (isStopped x ≡ true) ↔ (limit < nodes (fullTree o p))
+    unfolding isStopped
+    stops (best c b n js) m = (λ h. absurd (false≢true h), λ l. absurd (omega (arith, m .within)))
+    stops (none n) m = (λ h. absurd (false≢true h), λ l. absurd (omega (arith, m .within)))
+    stops (stopped k b n) m = (λ h. m .beyond, λ l. refl)
+
+    at-limit : (x : Answer) → Holds x → isStopped x ≡ true → (nodesOf x ≡ limit) × (shownBy x ≡ after (fullTree o p) limit)
+    unfolding isStopped nodesOf shownBy
+    at-limit (best c b n js) m e = absurd (false≢true e)
+    at-limit (none n) m e = absurd (false≢true e)
+    at-limit (stopped k b n) m e = (m .count, m .kept)
+
+    counts : (x : Answer) → Holds x → isStopped x ≡ false → nodesOf x ≡ nodes (fullTree o p)
+    unfolding isStopped nodesOf
+    counts (best c b n js) m e = m .count
+    counts (none n) m e = m .count
+    counts (stopped k b n) m e = absurd (true≢false e)
+
+    holds : Holds (answer o p limit)
+    unfolding answer
+    holds =
+        answer-meets Ok value (Shows p Ok value) (fullTree o p) (rootBound o p) limit (report .falls)
+        (λ X h. report .cheapest X (h, L .start-comp X h))
+
+  pub demand-3 : (limit : ℕ) → Demand3 p o Ok value limit
+  unfolding shownBy
+  demand-3 limit =
+      let x : Answer = answer o p limit in
+      let m : Holds limit x = holds limit in
+      let is-best : (c b n : ℕ) (js : List ℕ) → x ≡ best c b n js → Holds limit (best c b n js) = λ c b n js e. rw e at m in
+      let is-stopped : (k : Incumbent) (b n : ℕ) → x ≡ stopped k b n → Holds limit (stopped k b n) = λ k b n e. rw e at m in
+      record {
+        shown = λ c js e. rw e at (shows limit x m);
+        best-shown = λ c b n js e. rw e;
+        cheapest = λ c b n js e. is-best c b n js e .cheapest;
+        best-bound = λ c b n js e. is-best c b n js e .bound;
+        stopped-bound = λ k b n e. is-stopped k b n e .bound;
+        bound = bound-low;
+        none-exactly = nones limit x m;
+        stopped-exactly = stops limit x m;
+        stopped-count = λ e. at-limit limit x m e .0;
+        stopped-shows = λ e. at-limit limit x m e .1;
+        count = counts limit x m;
+        few = λ l. omega (arith, few-nodes (width p) refl l);
+      }
 
   -- for a recursive function: the tree below a good node is the node entered, and the trees of its branches
   abbrev pub tree : Node → Incumbent → Walk

@@ -18,7 +18,8 @@ use Rattle.rules.proofs.Rows.{free-in}
 use Rattle.rules.proofs.Costs.{Good, root-good, take-good, leave-good}
 use Rattle.rules.proofs.Reducing.{reduce-done}
 use Rattle.rules.proofs.Variants.{Laws, plain-forces}
-use Rattle.rules.proofs.Demand.{Demand3, demand-3}
+use Rattle.rules.specs.Demand.{Demand3}
+use Rattle.rules.proofs.Demand.{demand-3}
 
 module _ (p : Instance) (F : Fits p) where
   zero-of : (t : Node) (i : ℕ) → leastOf p t i ≡ 0 → 0 < length (freeOf p t i) → (k : ℕ) × FreeIn p t i k × (costAt t k ≡ 0)
@@ -56,5 +57,5 @@ module _ (p : Instance) (F : Fits p) where
     );
   }
 
-  pub sum-demand-3 : (a : ℕ) → Demand3 p (sum p) (IsPlan p) (price p) a
+  pub sum-demand-3 : (limit : ℕ) → Demand3 p (sum p) (IsPlan p) (price p) limit
   sum-demand-3 = demand-3 p F (sum p) (IsPlan p) (price p) (Good p) sum-laws

@@ -74,13 +74,6 @@ module _ {C : Type 0} (Ok : C → Type 0) (price : C → ℕ) (Shows : ℕ → L
   falls-at zero (then b r) = b
   falls-at (suc i) (then b r) = trans b (falls-at i r)
 
-  falls-on : {k e : Incumbent} {xs : List Incumbent} (i j : ℕ) → i ≤ j → Falls k xs e → NoDearer (getD xs i e) (getD xs j e)
-  falls-on i j l (last b) = λ c g. g
-  falls-on zero zero l (then b r) = λ c g. g
-  falls-on zero (suc j) l (then b r) = falls-at j r .no-dearer
-  falls-on (suc i) zero l (then b r) = absurd (omega arith)
-  falls-on (suc i) (suc j) l (then b r) = falls-on i j (omega arith) r
-
   -- What the answers say of a walk w from the root, with the root's bound b and the allowance a.
   pub record Best (w : Walk) (b a c d n : ℕ) (js : List ℕ) : Type 0 where
     pub shown : Shows c js
@@ -120,42 +113,6 @@ module _ {C : Type 0} (Ok : C → Type 0) (price : C → ℕ) (Shows : ℕ → L
     pub answer-meets : Meets w b a (answerOf w b a)
     unfolding answerOf
     answer-meets = meets-by (ltb a (nodes w)) refl
-
-  -- the other way round: which answer it is
-  module _ (w : Walk) (b a : ℕ) where
-    pub stopped-when : a < nodes w → answerOf w b a ≡ stopped (after w a) b a
-    unfolding answerOf answerBy
-    stopped-when l = rw (lt-ltb a (nodes w) l)
-
-    pub finished-when : nodes w ≤ a → answerOf w b a ≡ finished (w .end) b (nodes w)
-    unfolding answerOf answerBy
-    finished-when l = rw (le-ltb a (nodes w) l)
-
-    pub none-when : nodes w ≤ a → Falls nothing (w .entries) (w .end) → ((c : ℕ) (js : List ℕ) → Shows c js → ⊥) → answerOf w b a ≡ none (nodes w)
-    unfolding finished
-    none-when l f h = finished-when l ∙ go (w .end) (falls-end f .valid)
-      where
-        go : (k : Incumbent) → Valid k → finished k b (nodes w) ≡ none (nodes w)
-        go nothing v = refl
-        go (plan c js) v = absurd (h c js v)
-
-    -- an answer shows what is kept after as many nodes as are allowed
-    pub shown-is : shownBy (answerOf w b a) ≡ after w a
-    unfolding answerOf answerBy shownBy finished after
-    shown-is = go (ltb a (nodes w)) refl
-      where
-        end-is : (k : Incumbent) → shownBy (finished k b (nodes w)) ≡ k
-        end-is nothing = refl
-        end-is (plan c js) = refl
-
-        go : (t : Bool) → ltb a (nodes w) ≡ t → shownBy (answerBy t w b a) ≡ after w a
-        go true e = refl
-        go false e = end-is (w .end) ∙ sym (List·getD-eq-default (w .entries) (w .end) (ltb-false a (nodes w) e))
-
-  -- a larger allowance never shows a dearer plan and never loses the plan
-  pub longer : (w : Walk) (b : ℕ) → Falls nothing (w .entries) (w .end) → (i j : ℕ) → i ≤ j → NoDearer (shownBy (answerOf w b i)) (shownBy (answerOf w b j))
-  unfolding after
-  longer w b f i j l = rw (shown-is w b i, shown-is w b j) (falls-on i j l f)
 
   -- nodes: which are good, how many columns are free, and which choices complete them
   module _ {S : Type 0} (Good : S → Type 0) (size : S → ℕ) (Completion : S → C → Type 0) where

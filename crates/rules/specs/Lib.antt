@@ -6,4 +6,5 @@ pub mod Force
 pub mod Identity
 pub mod Search
 pub mod Tree
+pub mod Demand
 pub mod Files
