@@ -1,4 +1,5 @@
 pub mod Walks
+pub mod Limits
 pub mod Members
 pub mod Sums
 pub mod Plans

@@ -5,6 +5,7 @@ pub mod Reduce
 pub mod Force
 pub mod Identity
 pub mod Search
+pub mod Limited
 pub mod Tree
 pub mod Demand
 pub mod Files
