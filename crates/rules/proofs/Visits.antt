@@ -13,7 +13,7 @@ use Rattle.rules.specs.Instance.{Instance, Fits, width, covers, count, I
 use Rattle.rules.specs.declared.Node.{Node}
 use Rattle.rules.specs.Node.{isTaken, isOpen, freeColumns, freeOf, openRows, taken, take, leave}
 use Rattle.rules.specs.Search.{Incumbent, reaches, Visit, ended, full}
-use Rattle.rules.specs.Tree.{Variant, zeros, dearer, Penalty, just, most, penaltyOf, penalty, rowBefore, columnBefore, withoutBound, branchOn, reduced, living, visitBy, visit}
+use Rattle.rules.specs.Tree.{Variant, zeros, dearer, Penalty, just, most, penaltyOf, plus, penalty, rowBefore, columnBefore, withoutBound, branchOn, reduced, living, visitBy, visit}
 use Rattle.rules.proofs.Walks.{Lawful, reaches-true, at-most-le}
 use Rattle.rules.proofs.Sums.{total-cong}
 use Rattle.rules.proofs.Members.{not-so, member-cases, kept, member-keep, member-upto, upto-lt, keep-cong, pick-member, least-le, keep-short}
@@ -62,7 +62,7 @@ module _ (p : Instance) (F : Fits p) (o : Variant) (Ok : (ℕ → Bool) → Type
   module _ (s t : Node) (g : Good t) (less : size p t ≤ size p s) (comp : (X : ℕ → Bool) → Completes p Ok s X → Completion p t X) where
     without-low : (i : ℕ) → Open p t i → (b : ℕ) → FreeIn p t i b → (js : List ℕ) → zeros o p t i ≡ js → member b js ≡ true → (q : Penalty) → penalty o p t i ≡ q
         → (X : ℕ → Bool) → Completion p (leave t b) X → withoutBound (t .bound) js q ≤ value X
-    unfolding withoutBound member
+    unfolding withoutBound plus member
     without-low i h b f [] z m q e X c = absurd (false≢true m)
     without-low i h b f (j ∷ []) z m most e X c = L .low t g X (unleave p F t b (f .free) X c)
     without-low i h b f (j ∷ []) z m (just d) e X c = go (leb (t .bound + d) (value X)) refl

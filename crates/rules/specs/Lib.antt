@@ -9,3 +9,4 @@ pub mod Limited
 pub mod Tree
 pub mod Demand
 pub mod Files
+pub mod Cases

@@ -52,11 +52,14 @@ sameP most (just b) = false
 sameP (just a) most = false
 sameP (just a) (just b) = eqb a b
 
+unfoldable pub plus : ℕ → Penalty → ℕ
+plus b (just c) = b + c
+plus b most = b
+
 -- the bound of the branch without the column, by the row's columns at cost 0: with the penalty where there is just one
 unfoldable pub withoutBound : ℕ → List ℕ → Penalty → ℕ
 withoutBound b [] q = b
-withoutBound b (j ∷ []) most = b
-withoutBound b (j ∷ []) (just c) = b + c
+withoutBound b (j ∷ []) q = plus b q
 withoutBound b (j ∷ (k ∷ ks)) q = b
 
 module _ (o : Variant) (p : Instance) where
