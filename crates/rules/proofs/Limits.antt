@@ -75,7 +75,7 @@ module _ {S : Type 0} (w : S → Incumbent → Walk) (v : S → Tally → Tally)
   enter-none : (n : ℕ) (k : Incumbent) (x : Visit S) → cut (enter k x w) (tally n 0 false k) ≡ tally n 0 true k
   unfolding enter second
   enter-none n k ended = cut-none n k k []
-  enter-none n k (full c js) = cut-none n k (improve (reaches c k) k c js) []
+  enter-none n k (full c js) = cut-none n k (improve k c js) []
   enter-none n k (split a z b) = go (reaches b (w a k .end))
     where
       go : (r : Bool) → cut (second r k (w a k) (w z)) (tally n 0 false k) ≡ tally n 0 true k

@@ -1,7 +1,7 @@
 -- What a walk comes to, whatever the nodes are: it keeps only what is allowed, never gets dearer, and ends with the cheapest there is.
 -- To use it, prove `Lawful` of each visit. Nothing here knows of rows, costs of columns, forcing or the criteria of choice.
 use mathlib.Core.Path.{_≡_, refl, sym, _∙_, fun-ext}
-use mathlib.Core.Bool.{Bool, true, false, false≢true}
+use mathlib.Core.Bool.{Bool, true, false, cond, false≢true}
 use mathlib.Core.List.{List, [], _∷_, _++_}
 use mathlib.Core.Logic.{_⊎_, ⊎-elim}
 use Prim.Native.Nat.{ℕ, zero, suc, _+_, _^_, _≤_, _<_}
@@ -28,11 +28,6 @@ pub reaches-true : (k : Incumbent) (b : ℕ) → reaches b k ≡ true → AtMost
 unfolding reaches
 reaches-true nothing b e = false≢true e
 reaches-true (plan d js) b e = leb-true d b e
-
-reaches-false : (k : Incumbent) (b c : ℕ) → reaches b k ≡ false → AtMost k c → b ≤ c
-unfolding reaches
-reaches-false (plan d js) b c e h = omega (arith, leb-false d b e)
-reaches-false nothing b c e h = absurd h
 
 -- choices of which some are allowed, their price, and which lists show one of a given price
 module _ {C : Type 0} (Ok : C → Type 0) (price : C → ℕ) (Shows : ℕ → List ℕ → Type 0) where
@@ -164,18 +159,22 @@ module _ {C : Type 0} (Ok : C → Type 0) (price : C → ℕ) (Shows : ℕ → L
             few = λ m l. simp length-append (two-few (nodes d) (nodes y) m l (r .few) (g .few));
           }
 
-    full-falls : (k : Incumbent) → Valid k → (c : ℕ) (js : List ℕ) → Valid (plan c js) → (t : Bool) → reaches c k ≡ t → Better k (improve t k c js) × AtMost (improve t k c js) c
+    full-falls : (k : Incumbent) → Valid k → (c : ℕ) (js : List ℕ) → Shows c js → Better k (improve k c js) × AtMost (improve k c js) c
     unfolding improve
-    full-falls k v c js h true e = (self v, reaches-true k c e)
-    full-falls k v c js h false e = (record { no-dearer = λ d l. reaches-false k c d e l; valid = h }, omega arith)
+    full-falls nothing v c js h = (record { no-dearer = λ d l. absurd l; valid = h }, omega arith)
+    full-falls (plan d ks) v c js h = go (ltb c d) refl
+      where
+        go : (t : Bool) → ltb c d ≡ t → Better (plan d ks) (cond t (plan c js) (plan d ks)) × AtMost (cond t (plan c js) (plan d ks)) c
+        go true e = (record { no-dearer = λ b l. omega (arith, ltb-true c d e); valid = h }, omega arith)
+        go false e = (self {k = plan d ks} v, ltb-false c d e)
 
     enter-report : (s : S) (k : Incumbent) → Valid k → (x : Visit S) → Lawful s k x → (w : S → Incumbent → Walk)
         → ((t : S) (m : Incumbent) → Good t → size t < size s → Valid m → Report t m (w t m)) → Report s k (enter k x w)
     unfolding enter
     enter-report s k v ended l w q = record { falls = then (self v) (last (self v)); cheapest = l; few = λ m g. one-few m }
     enter-report s k v (full c js) l w q =
-        let f = full-falls k v c js (l .0) (reaches c k) refl in
-        record { falls = then (self v) (last (f .0)); cheapest = λ X h. at-most-le (improve (reaches c k) k c js) (f .1) (l .1 X h); few = λ m g. one-few m }
+        let f = full-falls k v c js (l .0) in
+        record { falls = then (self v) (last (f .0)); cheapest = λ X h. at-most-le (improve k c js) (f .1) (l .1 X h); few = λ m g. one-few m }
     enter-report s k v (split a z b) l w q =
         second-report s a z b l k v (w a k) (q a k (l .good-a) (l .less-a) v) (w z) (λ m. q z m (l .good-z) (l .less-z)) (reaches b (w a k .end)) refl
 

@@ -29,9 +29,7 @@ halted t = record { nodes = t .nodes; left = t .left; stopped = true; kept = t .
 
 -- a plan js of cost c is met
 abbrev pub offered : Tally → ℕ → List ℕ → Tally
-offered t c js = record {
-  nodes = t .nodes; left = t .left; stopped = t .stopped; kept = improve (reaches c (t .kept)) (t .kept) c js;
-}
+offered t c js = record { nodes = t .nodes; left = t .left; stopped = t .stopped; kept = improve (t .kept) c js }
 
 -- after the first branch: the second one is entered unless the walk is stopped, or its bound reaches the incumbent
 unfoldable pub onward : Bool → Bool → Tally → (Tally → Tally) → Tally
