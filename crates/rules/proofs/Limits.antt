@@ -11,10 +11,39 @@ use lib.Seq.{getD-append-add}
 use lib.Dec.{eqb, ltb}
 use borrow.Author.Tests.{ltb-true, ltb-false, lt-ltb, le-ltb, ne-eqb}
 use Rattle.rules.specs.Search.{
-  Incumbent, nothing, reaches, improve, Visit, ended, full, split, Walk, second, enter, walk, nodes, after, stopped, finished, answerBy, answerOf,
+  Incumbent,
+  nothing,
+  reaches,
+  improve,
+  Visit,
+  ended,
+  full,
+  split,
+  Walk,
+  second,
+  enter,
+  walk,
+  nodes,
+  after,
+  stopped,
+  finished,
+  answerBy,
+  answerOf,
 }
 use Rattle.rules.specs.Limited.{
-  Tally, fresh, entered, halted, offered, onward, proceed, admit, limited, cutBy, cut, answerIf, answerFrom,
+  Tally,
+  fresh,
+  entered,
+  halted,
+  offered,
+  onward,
+  proceed,
+  admit,
+  limited,
+  cutBy,
+  cut,
+  answerIf,
+  answerFrom,
 }
 
 -- in range, the default does not matter

@@ -8,11 +8,45 @@ use Rattle.rules.specs.Node.{freeColumns, freeOf, openRows, taken, root,
 use Rattle.rules.specs.Reduce.{leastOf, candidates, candidate, byOrder, precedes, rowFirst, lower, reduceOn, reduceBy, reduce}
 use Rattle.rules.specs.Force.{rowsWith, askedBy, asked, forceOn, forceBy, force}
 use Rattle.rules.specs.Search.{
-  Incumbent, nothing, plan, reaches, improve, second, enter, walk, after, Answer, best, none, stopped, finished, answerBy, answerOf,
+  Incumbent,
+  nothing,
+  plan,
+  reaches,
+  improve,
+  second,
+  enter,
+  walk,
+  after,
+  Answer,
+  best,
+  none,
+  stopped,
+  finished,
+  answerBy,
+  answerOf,
 }
 use Rattle.rules.specs.Tree.{
-  sum, penaltyOf, plus, aboveP, sameP, withoutBound, zeros, dearer, penalty, rowBefore, sharing, columnBefore, branchOn, reduced, living,
-  visitBy, visit, fullTree, boundOf, rootBound, answer,
+  sum,
+  penaltyOf,
+  plus,
+  aboveP,
+  sameP,
+  withoutBound,
+  zeros,
+  dearer,
+  penalty,
+  rowBefore,
+  sharing,
+  columnBefore,
+  branchOn,
+  reduced,
+  living,
+  visitBy,
+  visit,
+  fullTree,
+  boundOf,
+  rootBound,
+  answer,
 }
 use Rattle.rules.specs.Files.{numbered, solved}
 
@@ -100,7 +134,7 @@ equalBound = record {
 
 cases :
     map (λ p. solved p 1000000)
-      (fewFreeRow ∷ lowestRow ∷ allZero ∷ leastRatio ∷ zeroOnly ∷ twoZeros ∷ stepBack ∷ equalPlans ∷ equalBound ∷ [])
+    (fewFreeRow ∷ lowestRow ∷ allZero ∷ leastRatio ∷ zeroOnly ∷ twoZeros ∷ stepBack ∷ equalPlans ∷ equalBound ∷ [])
     ≡
     (best 2 2 3 (1 ∷ 2 ∷ []) ∷ best 2 2 2 (3 ∷ []) ∷ best 2 2 2 (4 ∷ []) ∷ best 2 2 2 (2 ∷ []) ∷ best 2 2 2 (2 ∷ [])
     ∷ best 6 2 4 (3 ∷ 6 ∷ []) ∷ best 6 3 3 (2 ∷ 4 ∷ []) ∷ best 4 2 3 (2 ∷ 5 ∷ []) ∷ best 11 9 3 (1 ∷ 2 ∷ []) ∷ [])

@@ -8,11 +8,45 @@ use Rattle.rules.specs.Node.{freeColumns, freeOf, openRows, taken, root,
 use Rattle.rules.specs.Reduce.{leastOf, candidates, candidate, byOrder, precedes, rowFirst, lower, reduceOn, reduceBy, reduce}
 use Rattle.rules.specs.Force.{rowsWith, askedBy, asked, forceOn, forceBy, force}
 use Rattle.rules.specs.Search.{
-  Incumbent, nothing, plan, reaches, improve, second, enter, walk, after, Answer, best, none, stopped, finished, answerBy, answerOf,
+  Incumbent,
+  nothing,
+  plan,
+  reaches,
+  improve,
+  second,
+  enter,
+  walk,
+  after,
+  Answer,
+  best,
+  none,
+  stopped,
+  finished,
+  answerBy,
+  answerOf,
 }
 use Rattle.rules.specs.Tree.{
-  sum, penaltyOf, plus, aboveP, sameP, withoutBound, zeros, dearer, penalty, rowBefore, sharing, columnBefore, branchOn, reduced, living,
-  visitBy, visit, fullTree, boundOf, rootBound, answer,
+  sum,
+  penaltyOf,
+  plus,
+  aboveP,
+  sameP,
+  withoutBound,
+  zeros,
+  dearer,
+  penalty,
+  rowBefore,
+  sharing,
+  columnBefore,
+  branchOn,
+  reduced,
+  living,
+  visitBy,
+  visit,
+  fullTree,
+  boundOf,
+  rootBound,
+  answer,
 }
 
 abbrev once : Instance
@@ -35,7 +69,7 @@ example1 = record {
   rows = 5;
   costs = 3 ∷ 7 ∷ 5 ∷ 8 ∷ 10 ∷ 4 ∷ 6 ∷ 9 ∷ [];
   bodies =
-    (1 ∷ []) ∷ (1 ∷ 5 ∷ []) ∷ (2 ∷ []) ∷ (2 ∷ 5 ∷ []) ∷ (2 ∷ 3 ∷ []) ∷ (3 ∷ 5 ∷ []) ∷ (3 ∷ 4 ∷ []) ∷ (4 ∷ []) ∷ [];
+      (1 ∷ []) ∷ (1 ∷ 5 ∷ []) ∷ (2 ∷ []) ∷ (2 ∷ 5 ∷ []) ∷ (2 ∷ 3 ∷ []) ∷ (3 ∷ 5 ∷ []) ∷ (3 ∷ 4 ∷ []) ∷ (4 ∷ []) ∷ [];
 }
 
 abbrev example4 : Instance
@@ -43,8 +77,8 @@ example4 = record {
   rows = 6;
   costs = 18 ∷ 22 ∷ 14 ∷ 36 ∷ 17 ∷ 14 ∷ 8 ∷ 24 ∷ 14 ∷ 7 ∷ [];
   bodies =
-    (5 ∷ 6 ∷ []) ∷ (3 ∷ 5 ∷ 6 ∷ []) ∷ (1 ∷ 4 ∷ []) ∷ (2 ∷ 3 ∷ 4 ∷ 6 ∷ []) ∷ (1 ∷ 2 ∷ []) ∷ (2 ∷ 6 ∷ []) ∷ (5 ∷ [])
-    ∷ (3 ∷ 4 ∷ 6 ∷ []) ∷ (3 ∷ 5 ∷ []) ∷ (4 ∷ []) ∷ [];
+      (5 ∷ 6 ∷ []) ∷ (3 ∷ 5 ∷ 6 ∷ []) ∷ (1 ∷ 4 ∷ []) ∷ (2 ∷ 3 ∷ 4 ∷ 6 ∷ []) ∷ (1 ∷ 2 ∷ []) ∷ (2 ∷ 6 ∷ []) ∷ (5 ∷ [])
+      ∷ (3 ∷ 4 ∷ 6 ∷ []) ∷ (3 ∷ 5 ∷ []) ∷ (4 ∷ []) ∷ [];
 }
 
 -- columns numbered from 1, as 01 does

@@ -5,7 +5,20 @@ use mathlib.Core.List.{List}
 use Prim.Native.Nat.{ℕ, zero, suc, _+_, _-_}
 use lib.Dec.{eqb, ltb}
 use Rattle.rules.specs.Search.{
-  Incumbent, nothing, reaches, improve, Visit, ended, full, split, Walk, nodes, after, Answer, stopped, finished,
+  Incumbent,
+  nothing,
+  reaches,
+  improve,
+  Visit,
+  ended,
+  full,
+  split,
+  Walk,
+  nodes,
+  after,
+  Answer,
+  stopped,
+  finished,
 }
 
 -- nodes entered, nodes left of the limit (01: remaining allowance), whether one more would have been entered, and the incumbent
