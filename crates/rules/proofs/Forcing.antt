@@ -1,4 +1,5 @@
--- Forcing keeps a node good, in any sense that taking a free column keeps, loses none of its completions, and comes to its end.
+-- Forcing keeps a node good, in any sense that taking a free column keeps, and loses none of its completions: the only free column of an
+-- open row is in each of them. It comes to its end, since each step leaves fewer free columns.
 use mathlib.Core.Path.{_≡_, refl, sym, ap, _∙_}
 use mathlib.Core.Bool.{Bool, true, false≢true, true≢false}
 use mathlib.Core.List.{List, [], _∷_}
@@ -8,16 +9,16 @@ use native.Mathlib.Omega.{arith}
 use lib.ListN.{length}
 use lib.Dec.{eqb}
 use borrow.Author.Tests.{eqb-true, eq-eqb}
+use Rattle.rules.specs.declared.Node.{Node}
 use Rattle.rules.specs.Lists.{member, first}
 use Rattle.rules.specs.Instance.{Instance, Fits, width}
-use Rattle.rules.specs.declared.Node.{Node}
 use Rattle.rules.specs.Node.{isFree, freeColumns, freeOf, openRows, take}
 use Rattle.rules.specs.Force.{Asked, dead, forced, settled, rowsWith, askedBy, asked, Forced, forceOn, forceBy, force}
-use Rattle.rules.proofs.Members.{so, here, member-cases, kept, member-keep, keep-upto}
 use Rattle.rules.specs.Identity.{Completion}
+use Rattle.rules.proofs.Members.{so, here, member-cases, kept, member-keep}
 use Rattle.rules.proofs.Plans.{Open, Free, FreeIn, Sound}
 use Rattle.rules.proofs.Steps.{take-comp, take-less}
-use Rattle.rules.proofs.Rows.{size, open-in, in-open, free-in, in-free, some-free}
+use Rattle.rules.proofs.Rows.{size, size-fits, open-in, in-open, free-in, in-free, some-free}
 
 one-of : (xs : List ℕ) → length xs ≡ 1 → xs ≡ first xs ∷ []
 unfolding first
@@ -34,18 +35,24 @@ module _ (p : Instance) where
   abbrev pub TwoFree : Node → Type 0
   TwoFree s = (i : ℕ) → Open p s i → 2 ≤ length (freeOf p s i)
 
+  -- why a node is dead, forced or settled
   abbrev Asks : Node → Asked → Type 0
   Asks s dead = (i : ℕ) × Open p s i × (freeOf p s i ≡ [])
   Asks s (forced j) = (i : ℕ) × Open p s i × (freeOf p s i ≡ j ∷ [])
   Asks s settled = TwoFree s
 
-  with-in : (n : ℕ) (s : Node) (i : ℕ) → member i (rowsWith n p s) ≡ true → Open p s i × (length (freeOf p s i) ≡ n)
-  unfolding rowsWith
-  with-in n s i h = let m = kept (λ i. eqb (length (freeOf p s i)) n) i (openRows p s) h in (open-in p s i (m .1), eqb-true (length (freeOf p s i)) n (m .0))
+  module _ (n : ℕ) (s : Node) (i : ℕ) where
+    with-in : member i (rowsWith n p s) ≡ true → Open p s i × (length (freeOf p s i) ≡ n)
+    unfolding rowsWith
+    with-in h =
+        let m = kept (λ i. eqb (length (freeOf p s i)) n) i (openRows p s) h in
+        (open-in p s i (m .1), eqb-true (length (freeOf p s i)) n (m .0))
 
-  in-with : (n : ℕ) (s : Node) (i : ℕ) → Open p s i → length (freeOf p s i) ≡ n → member i (rowsWith n p s) ≡ true
-  unfolding rowsWith
-  in-with n s i o e = member-keep (λ i. eqb (length (freeOf p s i)) n) i (openRows p s) ∙ rw (eq-eqb (length (freeOf p s i)) n e) (in-open p s i o)
+    in-with : Open p s i → length (freeOf p s i) ≡ n → member i (rowsWith n p s) ≡ true
+    unfolding rowsWith
+    in-with o e =
+        member-keep (λ i. eqb (length (freeOf p s i)) n) i (openRows p s)
+        ∙ rw (eq-eqb (length (freeOf p s i)) n e) (in-open p s i o)
 
   asks : (s : Node) → Asks s (asked p s)
   unfolding asked askedBy member
@@ -69,61 +76,66 @@ module _ (p : Instance) where
     forced-comp g b X c = take-comp p F s j (forced-free .free) b X c (so (λ x. some-free p s g i o X c (λ k f y.
         ⊎-elim (λ q. true≢false (sym y ∙ ap X q ∙ x)) false≢true (member-cases k j [] (rw e at (in-free p s i k f))))))
 
-module _ (p : Instance) (F : Fits p) (join : Node → ℕ → ℕ) (Good : Node → Type 0) (sound : (s : Node) → Good s → Sound p s)
-    (taking : (s : Node) (j : ℕ) → Free p s j → Good s → Good (take p s j (join s j))) where
-  pub record Settled (s : Node) (r : Forced) : Type 0 where
-    pub good : Good (r .node)
-    pub less : size p (r .node) ≤ size p s
-    pub comp : (X : ℕ → Bool) → Completion p s X → (r .alive ≡ true) × Completion p (r .node) X
-    pub two : r .alive ≡ true → TwoFree p (r .node)
-
-  force-on : (s : Node) → Good s → (a : Asked) → Asks p s a → (w : Node → Forced) → ((t : Node) → Good t → size p t < size p s → Settled t (w t)) → Settled s (forceOn join a p s w)
-  unfolding forceOn member
-  force-on s g dead (i, o, e) w q = record {
-    good = g;
-    less = omega arith;
-    two = λ h. absurd (false≢true h);
-    comp = λ X c. absurd (some-free p s (sound s g) i o X c (λ k f x. false≢true (rw e at (in-free p s i k f))));
-  }
-  force-on s g (forced j) (i, o, e) w q =
-      let t : Node = take p s j (join s j) in
-      let f : Free p s j = forced-free p F s i o j e .free in
-      let r : Settled t (w t) = q t (taking s j f g) (take-less p F s j f (join s j)) in
-      record {
-        good = r .good;
-        less = omega (arith, r .less, take-less p F s j f (join s j));
-        two = r .two;
-        comp = λ X c. r .comp X (forced-comp p F s i o j e (sound s g) (join s j) X c);
-      }
-  force-on s g settled h w q = record { good = g; less = omega arith; comp = λ X c. (refl, c); two = λ e. h }
-
-  force-by : (f : ℕ) (s : Node) → Good s → size p s < f → Settled s (forceBy join f p s)
-  unfolding forceBy
-  force-by zero s g l = absurd (omega arith)
-  force-by (suc f) s g l = force-on s g (asked p s) (asks p s) (λ t. forceBy join f p t) (λ t h m. force-by f t h (omega arith))
-
-  size-fits : (s : Node) → size p s < suc (width p)
-  unfolding freeColumns
-  size-fits s = omega (arith, keep-upto (isFree s) (width p))
-
-  pub force-settles : (s : Node) → Good s → Settled s (force join p s)
-  unfolding force
-  force-settles s g = force-by (suc (width p)) s g (size-fits s)
-
+module _ (p : Instance) (F : Fits p) (join : Node → ℕ → ℕ) where
   -- for a loop: the fuel does not matter, so forcing is one step and then forcing
-  force-on-same : (s : Node) → Good s → (a : Asked) → Asks p s a → (w u : Node → Forced) → ((t : Node) → Good t → size p t < size p s → w t ≡ u t) → forceOn join a p s w ≡ forceOn join a p s u
+  force-on-same : (s : Node) (a : Asked) → Asks p s a → (w u : Node → Forced) → ((t : Node) → size p t < size p s → w t ≡ u t)
+      → forceOn join a p s w ≡ forceOn join a p s u
   unfolding forceOn
-  force-on-same s g dead e w u q = refl
-  force-on-same s g (forced j) (i, o, e) w u q = let f : Free p s j = forced-free p F s i o j e .free in q (take p s j (join s j)) (taking s j f g) (take-less p F s j f (join s j))
-  force-on-same s g settled e w u q = refl
+  force-on-same s dead e w u q = refl
+  force-on-same s (forced j) (i, o, e) w u q =
+      q (take p s j (join s j)) (take-less p F s j (forced-free p F s i o j e .free) (join s j))
+  force-on-same s settled e w u q = refl
 
-  force-same : (f h : ℕ) (s : Node) → Good s → size p s < f → size p s < h → forceBy join f p s ≡ forceBy join h p s
+  force-same : (f h : ℕ) (s : Node) → size p s < f → size p s < h → forceBy join f p s ≡ forceBy join h p s
   unfolding forceBy
-  force-same zero h s g l m = absurd (omega arith)
-  force-same (suc f) zero s g l m = absurd (omega arith)
-  force-same (suc f) (suc h) s g l m = force-on-same s g (asked p s) (asks p s) (λ t. forceBy join f p t) (λ t. forceBy join h p t) (λ t b n. force-same f h t b (omega arith) (omega arith))
+  force-same zero h s l m = absurd (omega arith)
+  force-same (suc f) zero s l m = absurd (omega arith)
+  force-same (suc f) (suc h) s l m =
+      force-on-same s (asked p s) (asks p s) (λ t. forceBy join f p t) (λ t. forceBy join h p t)
+      (λ t n. force-same f h t (omega arith) (omega arith))
 
-  pub force-step : (s : Node) → Good s → force join p s ≡ forceOn join (asked p s) p s (force join p)
+  pub force-step : (s : Node) → force join p s ≡ forceOn join (asked p s) p s (force join p)
   unfolding force forceBy
-  force-step s g = force-on-same s g (asked p s) (asks p s) (λ t. forceBy join (width p) p t) (force join p)
-      (λ t b n. force-same (width p) (suc (width p)) t b (omega (arith, size-fits s)) (size-fits t))
+  force-step s =
+      force-on-same s (asked p s) (asks p s) (λ t. forceBy join (width p) p t) (force join p)
+      (λ t n. force-same (width p) (suc (width p)) t (omega (arith, size-fits p s)) (size-fits p t))
+
+  module _ (Good : Node → Type 0) (sound : (s : Node) → Good s → Sound p s)
+      (taking : (s : Node) (j : ℕ) → Free p s j → Good s → Good (take p s j (join s j))) where
+    -- what forcing a node s comes to
+    pub record Settled (s : Node) (r : Forced) : Type 0 where
+      pub good : Good (r .node)
+      pub less : size p (r .node) ≤ size p s
+      pub comp : (X : ℕ → Bool) → Completion p s X → (r .alive ≡ true) × Completion p (r .node) X
+      pub two : r .alive ≡ true → TwoFree p (r .node)
+
+    force-on : (s : Node) → Good s → (a : Asked) → Asks p s a
+        → (w : Node → Forced) → ((t : Node) → Good t → size p t < size p s → Settled t (w t)) → Settled s (forceOn join a p s w)
+    unfolding forceOn member
+    force-on s g dead (i, o, e) w q = record {
+      good = g;
+      less = omega arith;
+      two = λ h. absurd (false≢true h);
+      comp = λ X c. absurd (some-free p s (sound s g) i o X c (λ k f x. false≢true (rw e at (in-free p s i k f))));
+    }
+    force-on s g (forced j) (i, o, e) w q =
+        let t : Node = take p s j (join s j) in
+        let f : Free p s j = forced-free p F s i o j e .free in
+        let r : Settled t (w t) = q t (taking s j f g) (take-less p F s j f (join s j)) in
+        record {
+          good = r .good;
+          less = omega (arith, r .less, take-less p F s j f (join s j));
+          two = r .two;
+          comp = λ X c. r .comp X (forced-comp p F s i o j e (sound s g) (join s j) X c);
+        }
+    force-on s g settled h w q = record { good = g; less = omega arith; comp = λ X c. (refl, c); two = λ e. h }
+
+    force-by : (f : ℕ) (s : Node) → Good s → size p s < f → Settled s (forceBy join f p s)
+    unfolding forceBy
+    force-by zero s g l = absurd (omega arith)
+    force-by (suc f) s g l =
+        force-on s g (asked p s) (asks p s) (λ t. forceBy join f p t) (λ t h m. force-by f t h (omega arith))
+
+    pub force-settles : (s : Node) → Good s → Settled s (force join p s)
+    unfolding force
+    force-settles s g = force-by (suc (width p)) s g (size-fits p s)

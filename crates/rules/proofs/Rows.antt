@@ -1,7 +1,7 @@
 -- The lists of open rows and of a row's free columns, and what a row asks of a completion.
 use mathlib.Core.Path.{_≡_, refl, _∙_}
 use mathlib.Core.Bool.{Bool, true, false, _&&_}
-use Prim.Native.Nat.{ℕ}
+use Prim.Native.Nat.{ℕ, suc, _<_}
 use native.Mathlib.Omega.{arith}
 use lib.ListN.{length}
 use Rattle.rules.specs.Lists.{on, keep, upto, member}
@@ -9,7 +9,7 @@ use Rattle.rules.specs.Instance.{Instance, width, covers}
 use Rattle.rules.specs.declared.Node.{Node}
 use Rattle.rules.specs.Node.{isFree, isOpen, freeColumns, freeOf, openRows}
 use Rattle.rules.proofs.Sums.{total-zero}
-use Rattle.rules.proofs.Members.{kept, member-keep, member-upto, upto-lt}
+use Rattle.rules.proofs.Members.{kept, member-keep, member-upto, upto-lt, keep-upto}
 use Rattle.rules.specs.Identity.{Completion}
 use Rattle.rules.proofs.Plans.{Open, FreeIn, Sound, rest-once}
 
@@ -17,6 +17,10 @@ module _ (p : Instance) where
   -- how many columns are free: what falls along a branch
   abbrev pub size : Node → ℕ
   size s = length (freeColumns p s)
+
+  pub size-fits : (s : Node) → size s < suc (width p)
+  unfolding freeColumns
+  size-fits s = omega (arith, keep-upto (isFree s) (width p))
 
   pub open-in : (s : Node) (i : ℕ) → member i (openRows p s) ≡ true → Open p s i
   unfolding openRows

@@ -98,5 +98,6 @@ files :
     (best 5 5 1 (1 ∷ []) ∷ best 5 5 2 (1 ∷ []) ∷ none 1 ∷ best 8 8 2 (2 ∷ 3 ∷ []) ∷ none 3 ∷ stopped nothing 1 2
     ∷ best 17 17 3 (1 ∷ 4 ∷ 7 ∷ []) ∷ stopped nothing 17 2 ∷ best 42 39 6 (3 ∷ 6 ∷ 9 ∷ [])
     ∷ stopped (plan 46 (2 ∷ 5 ∷ 10 ∷ [])) 39 5 ∷ stopped (plan 49 (5 ∷ 7 ∷ 8 ∷ [])) 39 3 ∷ [])
-unfolding numbered keep from member leastFrom least pick isEmpty first covers meets freeColumns freeOf openRows taken root take leave leastOf candidates candidate byOrder precedes rowFirst lower reduceOn reduceBy reduce rowsWith askedBy asked forceOn forceBy force reaches improve second enter walk finished after answerBy answerOf zeros dearer penaltyOf penalty aboveP sameP rowBefore sharing columnBefore plus withoutBound branchOn reduced living visitBy visit fullTree boundOf rootBound answer
+unfolding numbered keep from member leastFrom least pick isEmpty first covers
+    meets freeColumns freeOf openRows taken root take leave leastOf candidates candidate byOrder precedes rowFirst lower reduceOn reduceBy reduce rowsWith askedBy asked forceOn forceBy force reaches improve second enter walk finished after answerBy answerOf zeros dearer penaltyOf penalty aboveP sameP rowBefore sharing columnBefore plus withoutBound branchOn reduced living visitBy visit fullTree boundOf rootBound answer
 files = refl
