@@ -6,24 +6,28 @@ use mathlib.Core.List.{List, [], _∷_}
 use mathlib.Core.Logic.{_↔_}
 use Prim.Native.Nat.{ℕ, zero, suc, _^_, _≤_, _<_}
 use native.Mathlib.Omega.{arith}
-use Rattle.rules.specs.Instance.{Instance, Fits, width, chosen, Shows}
 use Rattle.rules.specs.declared.Node.{Node}
-use Rattle.rules.specs.Node.{isFree, freeColumns, openRows}
-use Rattle.rules.specs.Search.{Incumbent, nothing, Walk, enter, walk, nodes, after, Answer, best, none, stopped, shownBy, nodesOf, isNone, isStopped}
-use Rattle.rules.specs.Demand.{Demand3}
+use Rattle.rules.specs.Instance.{Instance, Fits, width, chosen, Shows}
+use Rattle.rules.specs.Node.{openRows}
+use Rattle.rules.specs.Search.{Incumbent, nothing, Walk, enter, walk, nodes, after}
+use Rattle.rules.specs.Search.{Answer, best, none, stopped, shownBy, nodesOf, isNone, isStopped}
+use Rattle.rules.specs.Limited.{fresh, limited, answerFrom}
 use Rattle.rules.specs.Tree.{Variant, visit, fullTree, boundOf, rootBound, answer}
-use Rattle.rules.proofs.Walks.{Valid, Report, walk-report, Meets, answer-meets, walk-step}
-use Rattle.rules.proofs.Members.{keep-upto}
 use Rattle.rules.specs.Identity.{Completion}
-use Rattle.rules.proofs.Rows.{size}
-use Rattle.rules.proofs.Variants.{Forces, Laws, lowered-comp}
+use Rattle.rules.specs.Demand.{Demand3}
+use Rattle.rules.proofs.Walks.{Valid, Report, walk-report, Meets, answer-meets, walk-step}
+use Rattle.rules.proofs.Limits.{answer-limited}
+use Rattle.rules.proofs.Rows.{size, size-fits}
+use Rattle.rules.proofs.Variants.{Lowered, Forces, Laws, lowered-comp}
 use Rattle.rules.proofs.Visits.{Completes, visit-law}
 
-module _ (p : Instance) (F : Fits p) (o : Variant) (Ok : (ℕ → Bool) → Type 0) (value : (ℕ → Bool) → ℕ) (Good : Node → Type 0) (L : Laws p o Ok value Good) where
+module _ (p : Instance) (F : Fits p) (o : Variant) (Ok : (ℕ → Bool) → Type 0) (value : (ℕ → Bool) → ℕ) (Good : Node → Type 0)
+    (L : Laws p o Ok value Good) where
   report : Report Ok value (Shows p Ok value) Good (size p) (Completes p Ok) (o .start) nothing (fullTree o p)
-  unfolding fullTree freeColumns
-  report = walk-report Ok value (Shows p Ok value) Good (size p) (Completes p Ok) (visit o p) (visit-law p F o Ok value Good L) (suc (width p)) (o .start) nothing (L .start-good)
-      (omega (arith, keep-upto (isFree (o .start)) (width p))) tt
+  unfolding fullTree
+  report =
+      walk-report Ok value (Shows p Ok value) Good (size p) (Completes p Ok) (visit o p) (visit-law p F o Ok value Good L)
+      (suc (width p)) (o .start) nothing (L .start-good) (size-fits p (o .start)) tt
 
   bound-low : (X : ℕ → Bool) → Ok X → rootBound o p ≤ value X
   unfolding rootBound boundOf
@@ -40,12 +44,14 @@ module _ (p : Instance) (F : Fits p) (o : Variant) (Ok : (ℕ → Bool) → Type
 
       go : (is : List ℕ) → boundOf o p t is ≤ value X
       go [] = L .low t (f .good) X c
-      go (i ∷ is) = let r = L .reducing t (f .good) in L .low (o .lowered t) (r .good) X (lowered-comp p o Good t (o .lowered t) r X c)
+      go (i ∷ is) =
+          let u : Node = o .lowered t in
+          let r : Lowered p o Good t u = L .reducing t (f .good) in
+          L .low u (r .good) X (lowered-comp p o Good t u r X c)
 
   few-nodes : (n : ℕ) → width p ≡ n → 1 ≤ n → suc (nodes (fullTree o p)) ≤ 2 ^ n
-  unfolding freeColumns
   few-nodes zero e l = absurd (omega arith)
-  few-nodes (suc m) e l = report .few m (omega (arith, keep-upto (isFree (o .start)) (width p)))
+  few-nodes (suc m) e l = report .few m (omega (arith, size-fits p (o .start)))
 
   -- the demand's sentences, by cases on the answer x
   module _ (limit : ℕ) where
@@ -115,6 +121,12 @@ module _ (p : Instance) (F : Fits p) (o : Variant) (Ok : (ℕ → Bool) → Type
   tree s k = walk (visit o p) (suc (width p)) s k
 
   pub tree-step : (s : Node) (k : Incumbent) → Good s → tree s k ≡ enter k (visit o p s k) tree
-  unfolding freeColumns
-  tree-step s k g = walk-step Ok value (Shows p Ok value) Good (size p) (Completes p Ok) (visit o p) (visit-law p F o Ok value Good L) (suc (width p)) s k g
-      (omega (arith, keep-upto (isFree s) (width p)))
+  tree-step s k g =
+      walk-step Ok value (Shows p Ok value) Good (size p) (Completes p Ok) (visit o p) (visit-law p F o Ok value Good L)
+      (suc (width p)) s k g (size-fits p s)
+
+  -- for the search: the tally of the walk within the limit gives the answer
+  pub limited-answer : (limit : ℕ)
+      → answerFrom (limited (visit o p) (suc (width p)) (o .start) (fresh limit)) (rootBound o p) ≡ answer o p limit
+  unfolding answer fullTree
+  limited-answer limit = answer-limited (visit o p) (suc (width p)) (o .start) (rootBound o p) limit

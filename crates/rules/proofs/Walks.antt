@@ -1,15 +1,17 @@
 -- What a walk comes to, whatever the nodes are: it keeps only what is allowed, never gets dearer, and ends with the cheapest there is.
--- To use it, prove `Lawful` of each visit. Nothing here knows of rows, costs of columns, forcing or the criteria of choice.
-use mathlib.Core.Path.{_≡_, refl, sym, _∙_, fun-ext}
+-- For each branch left out costs at least what is kept, and a split loses no completion. To use it, prove `Lawful` of each visit.
+-- Nothing here knows of rows, costs of columns, forcing or the criteria of choice.
+use mathlib.Core.Path.{_≡_, refl, fun-ext}
 use mathlib.Core.Bool.{Bool, true, false, cond, false≢true}
 use mathlib.Core.List.{List, [], _∷_, _++_}
 use mathlib.Core.Logic.{_⊎_, ⊎-elim}
 use Prim.Native.Nat.{ℕ, zero, suc, _+_, _^_, _≤_, _<_}
 use native.Mathlib.Omega.{arith}
-use lib.ListN.{getD, length-append, List·getD-eq-default}
+use lib.ListN.{getD, length-append}
 use lib.Dec.{ltb}
-use borrow.Author.Tests.{leb-true, leb-false, ltb-true, ltb-false, lt-ltb, le-ltb}
-use Rattle.rules.specs.Search.{Incumbent, nothing, plan, reaches, improve, Visit, ended, full, split, Walk, second, enter, walk, Answer, best, none, stopped, finished, after, nodes, answerBy, answerOf, shownBy}
+use borrow.Author.Tests.{leb-true, ltb-true, ltb-false}
+use Rattle.rules.specs.Search.{Incumbent, nothing, plan, reaches, improve, Visit, ended, full, split, Walk, second, enter, walk}
+use Rattle.rules.specs.Search.{nodes, after, Answer, best, none, stopped, finished, answerBy, answerOf}
 
 -- a plan is kept, at c or less
 abbrev pub AtMost : Incumbent → ℕ → Type 0
@@ -29,8 +31,8 @@ unfolding reaches
 reaches-true nothing b e = false≢true e
 reaches-true (plan d js) b e = leb-true d b e
 
--- choices of which some are allowed, their price, and which lists show one of a given price
-module _ {C : Type 0} (Ok : C → Type 0) (price : C → ℕ) (Shows : ℕ → List ℕ → Type 0) where
+-- choices of which some are allowed, their value, and which lists show one of a given value
+module _ {C : Type 0} (Ok : C → Type 0) (value : C → ℕ) (Shows : ℕ → List ℕ → Type 0) where
   -- what is kept shows an allowed choice
   abbrev pub Valid : Incumbent → Type 0
   Valid nothing = Unit {0}
@@ -69,48 +71,67 @@ module _ {C : Type 0} (Ok : C → Type 0) (price : C → ℕ) (Shows : ℕ → L
   falls-at zero (then b r) = b
   falls-at (suc i) (then b r) = trans b (falls-at i r)
 
-  -- What the answers say of a walk w from the root, with the root's bound b and the allowance a.
-  pub record Best (w : Walk) (b a c d n : ℕ) (js : List ℕ) : Type 0 where
+  -- What each answer says of a walk w from the root, with the root's bound b, within a node limit.
+  pub record Best (w : Walk) (b limit c d n : ℕ) (js : List ℕ) : Type 0 where
     pub shown : Shows c js
-    pub cheapest : (X : C) → Ok X → c ≤ price X
+    pub cheapest : (X : C) → Ok X → c ≤ value X
     pub bound : d ≡ b
     pub count : n ≡ nodes w
-    pub within : nodes w ≤ a
+    pub within : nodes w ≤ limit
 
-  pub record None (w : Walk) (a n : ℕ) : Type 0 where
+  pub record None (w : Walk) (limit n : ℕ) : Type 0 where
     pub no-plan : (X : C) → Ok X → ⊥
     pub count : n ≡ nodes w
-    pub within : nodes w ≤ a
+    pub within : nodes w ≤ limit
 
-  pub record Stopped (w : Walk) (b a : ℕ) (k : Incumbent) (d n : ℕ) : Type 0 where
+  pub record Stopped (w : Walk) (b limit : ℕ) (k : Incumbent) (d n : ℕ) : Type 0 where
     pub shown : Valid k
-    pub kept : k ≡ after w a
+    pub kept : k ≡ after w limit
     pub bound : d ≡ b
-    pub count : n ≡ a
-    pub beyond : a < nodes w
+    pub count : n ≡ limit
+    pub beyond : limit < nodes w
 
-  abbrev pub Meets : Walk → ℕ → ℕ → Answer → Type 0
-  Meets w b a (best c d n js) = Best w b a c d n js
-  Meets w b a (none n) = None w a n
-  Meets w b a (stopped k d n) = Stopped w b a k d n
+  module _ (w : Walk) (b limit : ℕ) where
+    abbrev pub Meets : Answer → Type 0
+    Meets (best c d n js) = Best w b limit c d n js
+    Meets (none n) = None w limit n
+    Meets (stopped k d n) = Stopped w b limit k d n
 
-  module _ (w : Walk) (b a : ℕ) (falls : Falls nothing (w .entries) (w .end)) (cheapest : (X : C) → Ok X → AtMost (w .end) (price X)) where
-    finished-meets : (k : Incumbent) → Valid k → ((X : C) → Ok X → AtMost k (price X)) → nodes w ≤ a → Meets w b a (finished k b (nodes w))
-    unfolding finished
-    finished-meets nothing v h l = record { no-plan = h; count = refl; within = l }
-    finished-meets (plan c js) v h l = record { shown = v; cheapest = h; bound = refl; count = refl; within = l }
+    module _ (falls : Falls nothing (w .entries) (w .end)) (cheapest : (X : C) → Ok X → AtMost (w .end) (value X)) where
+      finished-meets : (k : Incumbent) → Valid k → ((X : C) → Ok X → AtMost k (value X)) → nodes w ≤ limit
+          → Meets (finished k b (nodes w))
+      unfolding finished
+      finished-meets nothing v h l = record { no-plan = h; count = refl; within = l }
+      finished-meets (plan c js) v h l = record { shown = v; cheapest = h; bound = refl; count = refl; within = l }
 
-    meets-by : (t : Bool) → ltb a (nodes w) ≡ t → Meets w b a (answerBy t w b a)
-    unfolding answerBy after
-    meets-by true e = record { shown = falls-at a falls .valid; kept = refl; bound = refl; count = refl; beyond = ltb-true a (nodes w) e }
-    meets-by false e = finished-meets (w .end) (falls-end falls .valid) cheapest (ltb-false a (nodes w) e)
+      meets-by : (t : Bool) → ltb limit (nodes w) ≡ t → Meets (answerBy t w b limit)
+      unfolding answerBy after
+      meets-by true e = record {
+        shown = falls-at limit falls .valid;
+        kept = refl;
+        bound = refl;
+        count = refl;
+        beyond = ltb-true limit (nodes w) e;
+      }
+      meets-by false e = finished-meets (w .end) (falls-end falls .valid) cheapest (ltb-false limit (nodes w) e)
 
-    pub answer-meets : Meets w b a (answerOf w b a)
-    unfolding answerOf
-    answer-meets = meets-by (ltb a (nodes w)) refl
+      pub answer-meets : Meets (answerOf w b limit)
+      unfolding answerOf
+      answer-meets = meets-by (ltb limit (nodes w)) refl
+
+  full-falls : (k : Incumbent) → Valid k → (c : ℕ) (js : List ℕ) → Shows c js
+      → Better k (improve k c js) × AtMost (improve k c js) c
+  unfolding improve
+  full-falls nothing v c js h = (record { no-dearer = λ d l. absurd l; valid = h }, omega arith)
+  full-falls (plan d ks) v c js h = go (ltb c d) refl
+    where
+      go : (t : Bool) → ltb c d ≡ t
+          → Better (plan d ks) (cond t (plan c js) (plan d ks)) × AtMost (cond t (plan c js) (plan d ks)) c
+      go true e = (record { no-dearer = λ b l. omega (arith, ltb-true c d e); valid = h }, omega arith)
+      go false e = (self {k = plan d ks} v, ltb-false c d e)
 
   -- nodes: which are good, how many columns are free, and which choices complete them
-  module _ {S : Type 0} (Good : S → Type 0) (size : S → ℕ) (Completion : S → C → Type 0) where
+  module _ {S : Type 0} (Good : S → Type 0) (size : S → ℕ) (Completes : S → C → Type 0) where
     -- s split into a and z: nothing is lost, and all of z costs b or more
     pub record Splits (s a z : S) (b : ℕ) : Type 0 where
       pub good-a : Good a
@@ -118,55 +139,55 @@ module _ {C : Type 0} (Ok : C → Type 0) (price : C → ℕ) (Shows : ℕ → L
       pub less-a : size a < size s
       pub less-z : size z < size s
       pub two : 2 ≤ size s
-      pub cases : (X : C) → Completion s X → Completion a X ⊎ Completion z X
-      pub low : (X : C) → Completion z X → b ≤ price X
+      pub cases : (X : C) → Completes s X → Completes a X ⊎ Completes z X
+      pub low : (X : C) → Completes z X → b ≤ value X
 
-    -- what a visit owes: where a node ends, none of its completions is improve than what is kept (it may have none)
+    -- what a visit owes: where a node ends, none of its completions is cheaper than what is kept (it may have none)
     abbrev pub Lawful : S → Incumbent → Visit S → Type 0
-    Lawful s k ended = (X : C) → Completion s X → AtMost k (price X)
-    Lawful s k (full c js) = Shows c js × ((X : C) → Completion s X → c ≤ price X)
+    Lawful s k ended = (X : C) → Completes s X → AtMost k (value X)
+    Lawful s k (full c js) = Shows c js × ((X : C) → Completes s X → c ≤ value X)
     Lawful s k (split a z b) = Splits s a z b
+
+    -- x nodes are few: at most 2^n - 1 for n free columns, n >= 1
+    abbrev pub Few : S → ℕ → Type 0
+    Few s x = (m : ℕ) → size s ≤ suc m → suc x ≤ 2 ^ suc m
 
     -- a walk from s with k kept
     pub record Report (s : S) (k : Incumbent) (w : Walk) : Type 0 where
       pub falls : Falls k (w .entries) (w .end)
-      pub cheapest : (X : C) → Completion s X → AtMost (w .end) (price X)
-      pub few : (m : ℕ) → size s ≤ suc m → suc (nodes w) ≤ 2 ^ suc m
+      pub cheapest : (X : C) → Completes s X → AtMost (w .end) (value X)
+      pub few : Few s (nodes w)
 
     one-few : (m : ℕ) → 2 ≤ 2 ^ suc m
     one-few zero = omega arith
     one-few (suc m) = omega (arith, one-few m)
 
     module _ (s a z : S) (b : ℕ) (o : Splits s a z b) (k : Incumbent) (v : Valid k) where
-      two-few : (x y : ℕ) (m : ℕ) → size s ≤ suc m → ((m : ℕ) → size a ≤ suc m → suc x ≤ 2 ^ suc m) → ((m : ℕ) → size z ≤ suc m → suc y ≤ 2 ^ suc m) → suc (suc (x + y)) ≤ 2 ^ suc m
-      two-few x y zero l f g = omega (arith, o .two)
-      two-few x y (suc m) l f g = omega (arith, f m (omega (arith, o .less-a)), g m (omega (arith, o .less-z)))
+      two-few : (x y : ℕ) → Few a x → Few z y → Few s (suc (x + y))
+      two-few x y f g zero l = omega (arith, o .two)
+      two-few x y f g (suc m) l = omega (arith, f m (omega (arith, o .less-a)), g m (omega (arith, o .less-z)))
 
       second-report : (d : Walk) → Report a k d → (w : Incumbent → Walk) → ((m : Incumbent) → Valid m → Report z m (w m))
           → (t : Bool) → reaches b (d .end) ≡ t → Report s k (second t k d w)
       unfolding second
-      second-report d r w q true e = record {
-        falls = then (self v) (r .falls);
-        cheapest = λ X h. ⊎-elim (r .cheapest X) (λ g. at-most-le (d .end) (reaches-true (d .end) b e) (o .low X g)) (o .cases X h);
-        few = λ m l. omega (arith, two-few (nodes d) 1 m l (r .few) (λ n g. one-few n));
-      }
+      second-report d r w q true e =
+          let left-out : (X : C) → Completes z X → AtMost (d .end) (value X) = λ X g.
+              at-most-le (d .end) (reaches-true (d .end) b e) (o .low X g) in
+          record {
+            falls = then (self v) (r .falls);
+            cheapest = λ X h. ⊎-elim (r .cheapest X) (left-out X) (o .cases X h);
+            few = λ m l. omega (arith, two-few (nodes d) 1 (r .few) (λ n g. one-few n) m l);
+          }
       second-report d r w q false e =
           let y : Walk = w (d .end) in
           let g : Report z (d .end) y = q (d .end) (falls-end (r .falls) .valid) in
+          let still : (X : C) → Completes a X → AtMost (y .end) (value X) = λ X j.
+              falls-end (g .falls) .no-dearer (value X) (r .cheapest X j) in
           record {
             falls = then (self v) (falls-join (r .falls) (g .falls));
-            cheapest = λ X h. ⊎-elim (λ j. falls-end (g .falls) .no-dearer (price X) (r .cheapest X j)) (g .cheapest X) (o .cases X h);
-            few = λ m l. simp length-append (two-few (nodes d) (nodes y) m l (r .few) (g .few));
+            cheapest = λ X h. ⊎-elim (still X) (g .cheapest X) (o .cases X h);
+            few = λ m l. simp length-append (two-few (nodes d) (nodes y) (r .few) (g .few) m l);
           }
-
-    full-falls : (k : Incumbent) → Valid k → (c : ℕ) (js : List ℕ) → Shows c js → Better k (improve k c js) × AtMost (improve k c js) c
-    unfolding improve
-    full-falls nothing v c js h = (record { no-dearer = λ d l. absurd l; valid = h }, omega arith)
-    full-falls (plan d ks) v c js h = go (ltb c d) refl
-      where
-        go : (t : Bool) → ltb c d ≡ t → Better (plan d ks) (cond t (plan c js) (plan d ks)) × AtMost (cond t (plan c js) (plan d ks)) c
-        go true e = (record { no-dearer = λ b l. omega (arith, ltb-true c d e); valid = h }, omega arith)
-        go false e = (self {k = plan d ks} v, ltb-false c d e)
 
     enter-report : (s : S) (k : Incumbent) → Valid k → (x : Visit S) → Lawful s k x → (w : S → Incumbent → Walk)
         → ((t : S) (m : Incumbent) → Good t → size t < size s → Valid m → Report t m (w t m)) → Report s k (enter k x w)
@@ -174,33 +195,47 @@ module _ {C : Type 0} (Ok : C → Type 0) (price : C → ℕ) (Shows : ℕ → L
     enter-report s k v ended l w q = record { falls = then (self v) (last (self v)); cheapest = l; few = λ m g. one-few m }
     enter-report s k v (full c js) l w q =
         let f = full-falls k v c js (l .0) in
-        record { falls = then (self v) (last (f .0)); cheapest = λ X h. at-most-le (improve k c js) (f .1) (l .1 X h); few = λ m g. one-few m }
+        record {
+          falls = then (self v) (last (f .0));
+          cheapest = λ X h. at-most-le (improve k c js) (f .1) (l .1 X h);
+          few = λ m g. one-few m;
+        }
     enter-report s k v (split a z b) l w q =
-        second-report s a z b l k v (w a k) (q a k (l .good-a) (l .less-a) v) (w z) (λ m. q z m (l .good-z) (l .less-z)) (reaches b (w a k .end)) refl
+        second-report s a z b l k v (w a k) (q a k (l .good-a) (l .less-a) v) (w z) (λ m. q z m (l .good-z) (l .less-z))
+        (reaches b (w a k .end)) refl
 
     module _ (visit : S → Incumbent → Visit S) (laws : (s : S) (k : Incumbent) → Good s → Lawful s k (visit s k)) where
       pub walk-report : (f : ℕ) (s : S) (k : Incumbent) → Good s → size s < f → Valid k → Report s k (walk visit f s k)
       unfolding walk
       walk-report zero s k g l v = absurd (omega arith)
-      walk-report (suc f) s k g l v = enter-report s k v (visit s k) (laws s k g) (λ t m. walk visit f t m) (λ t m h i. walk-report f t m h (omega arith))
+      walk-report (suc f) s k g l v =
+          enter-report s k v (visit s k) (laws s k g) (λ t m. walk visit f t m) (λ t m h i. walk-report f t m h (omega arith))
 
       -- fuel beyond the number of free columns does not matter
-      enter-same : (s : S) (k : Incumbent) (x : Visit S) → Lawful s k x → (w u : S → Incumbent → Walk)
-          → ((t : S) (m : Incumbent) → Good t → size t < size s → w t m ≡ u t m) → enter k x w ≡ enter k x u
+      enter-same : (s : S) (k : Incumbent) → Good s → (w u : S → Incumbent → Walk)
+          → ((t : S) (m : Incumbent) → Good t → size t < size s → w t m ≡ u t m) → enter k (visit s k) w ≡ enter k (visit s k) u
       unfolding enter
-      enter-same s k ended l w u q = refl
-      enter-same s k (full c js) l w u q = refl
-      enter-same s k (split a z b) l w u q = rw (q a k (l .good-a) (l .less-a), fun-ext (λ m. q z m (l .good-z) (l .less-z)))
+      enter-same s k g w u q = go (visit s k) (laws s k g)
+        where
+          go : (x : Visit S) → Lawful s k x → enter k x w ≡ enter k x u
+          go ended l = refl
+          go (full c js) l = refl
+          go (split a z b) l = rw (q a k (l .good-a) (l .less-a), fun-ext (λ m. q z m (l .good-z) (l .less-z)))
 
-      pub walk-enough : (f g : ℕ) (s : S) (k : Incumbent) → Good s → size s < f → size s < g → walk visit f s k ≡ walk visit g s k
+      pub walk-enough : (f g : ℕ) (s : S) (k : Incumbent) → Good s → size s < f → size s < g
+          → walk visit f s k ≡ walk visit g s k
       unfolding walk
       walk-enough (suc f) (suc g) s k h l m =
-          enter-same s k (visit s k) (laws s k h) (λ t n. walk visit f t n) (λ t n. walk visit g t n) (λ t n i j. walk-enough f g t n i (omega arith) (omega arith))
+          enter-same s k h (λ t n. walk visit f t n) (λ t n. walk visit g t n)
+          (λ t n i j. walk-enough f g t n i (omega arith) (omega arith))
       walk-enough zero g s k h l m = absurd (omega arith)
       walk-enough (suc f) zero s k h l m = absurd (omega arith)
 
       -- for a recursive function: a walk is its node entered, and the walks of the branches
-      pub walk-step : (f : ℕ) (s : S) (k : Incumbent) → Good s → size s < f → walk visit f s k ≡ enter k (visit s k) (λ t m. walk visit f t m)
+      pub walk-step : (f : ℕ) (s : S) (k : Incumbent) → Good s → size s < f
+          → walk visit f s k ≡ enter k (visit s k) (λ t m. walk visit f t m)
       unfolding walk
       walk-step zero s k g l = absurd (omega arith)
-      walk-step (suc f) s k g l = enter-same s k (visit s k) (laws s k g) (λ t m. walk visit f t m) (λ t m. walk visit (suc f) t m) (λ t m h i. walk-enough f (suc f) t m h (omega arith) (omega arith))
+      walk-step (suc f) s k g l =
+          enter-same s k g (λ t m. walk visit f t m) (λ t m. walk visit (suc f) t m)
+          (λ t m h i. walk-enough f (suc f) t m h (omega arith) (omega arith))
