@@ -6,14 +6,14 @@ use native.Mathlib.Omega.{arith}
 use lib.ListN.{getD}
 use lib.Dec.{eqb}
 use borrow.Author.Tests.{eqb-true}
+use Rattle.rules.specs.declared.Node.{Node}
 use Rattle.rules.specs.Lists.{on, total}
 use Rattle.rules.specs.Instance.{Instance, Fits, width, covers, price}
-use Rattle.rules.specs.declared.Node.{Node}
 use Rattle.rules.specs.Node.{isFree, isTaken, costAt, root, take, leave}
 use Rattle.rules.specs.Reduce.{lower}
-use Rattle.rules.proofs.Sums.{total-cong, total-add, total-add-le, total-at}
-use Rattle.rules.proofs.Members.{at-table}
 use Rattle.rules.specs.Identity.{Completion, rest, Identity}
+use Rattle.rules.proofs.Members.{at-table}
+use Rattle.rules.proofs.Sums.{total-cong, total-add, total-add-le, total-at}
 use Rattle.rules.proofs.Plans.{Open, Free, FreeIn, Sound, rest-row, not-both, root-sound, root-free, comp-same, sound-same}
 use Rattle.rules.proofs.Decide.{Decided, stays, goes, joins, gained, undo}
 use Rattle.rules.proofs.Steps.{take-decides, take-gains, take-sound, leave-decides, leave-gains, leave-rest, leave-sound}

@@ -9,8 +9,8 @@ use native.Mathlib.Omega.{arith}
 use Rattle.rules.specs.declared.Node.{Node}
 use Rattle.rules.specs.Instance.{Instance, Fits, width, chosen, Shows}
 use Rattle.rules.specs.Node.{openRows}
-use Rattle.rules.specs.Search.{Incumbent, nothing, Walk, enter, walk, nodes, after}
-use Rattle.rules.specs.Search.{Answer, best, none, stopped, shownBy, nodesOf, isNone, isStopped}
+use Rattle.rules.specs.Search.{Incumbent, nothing, Walk, enter, walk, nodes, after, Answer, best, none, stopped, shownBy}
+use Rattle.rules.specs.Search.{nodesOf, isNone, isStopped}
 use Rattle.rules.specs.Limited.{fresh, limited, answerFrom}
 use Rattle.rules.specs.Tree.{Variant, visit, fullTree, boundOf, rootBound, answer}
 use Rattle.rules.specs.Identity.{Completion}

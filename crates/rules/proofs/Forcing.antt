@@ -12,7 +12,7 @@ use borrow.Author.Tests.{eqb-true, eq-eqb}
 use Rattle.rules.specs.declared.Node.{Node}
 use Rattle.rules.specs.Lists.{member, first}
 use Rattle.rules.specs.Instance.{Instance, Fits, width}
-use Rattle.rules.specs.Node.{isFree, freeColumns, freeOf, openRows, take}
+use Rattle.rules.specs.Node.{freeOf, openRows, take}
 use Rattle.rules.specs.Force.{Asked, dead, forced, settled, rowsWith, askedBy, asked, Forced, forceOn, forceBy, force}
 use Rattle.rules.specs.Identity.{Completion}
 use Rattle.rules.proofs.Members.{so, here, member-cases, kept, member-keep}

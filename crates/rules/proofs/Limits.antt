@@ -8,43 +8,11 @@ use native.Mathlib.Nat.{zero-add}
 use native.Mathlib.Omega.{arith}
 use lib.ListN.{length, getD, length-append, List·getD-append}
 use lib.Seq.{getD-append-add}
-use lib.Dec.{eqb, ltb}
+use lib.Dec.{ltb}
 use borrow.Author.Tests.{ltb-true, ltb-false, lt-ltb, le-ltb, ne-eqb}
-use Rattle.rules.specs.Search.{
-  Incumbent,
-  nothing,
-  reaches,
-  improve,
-  Visit,
-  ended,
-  full,
-  split,
-  Walk,
-  second,
-  enter,
-  walk,
-  nodes,
-  after,
-  stopped,
-  finished,
-  answerBy,
-  answerOf,
-}
-use Rattle.rules.specs.Limited.{
-  Tally,
-  fresh,
-  entered,
-  halted,
-  offered,
-  onward,
-  proceed,
-  admit,
-  limited,
-  cutBy,
-  cut,
-  answerIf,
-  answerFrom,
-}
+use Rattle.rules.specs.Search.{Incumbent, nothing, reaches, improve, Visit, ended, full, split, Walk, second, enter, walk}
+use Rattle.rules.specs.Search.{nodes, after, stopped, answerBy, answerOf}
+use Rattle.rules.specs.Limited.{Tally, fresh, entered, onward, proceed, admit, limited, cutBy, cut, answerIf, answerFrom}
 
 -- in range, the default does not matter
 at-any : (xs : List Incumbent) (i : ℕ) (d e : Incumbent) → i < length xs → getD xs i d ≡ getD xs i e

@@ -7,13 +7,14 @@ use native.Mathlib.Omega.{arith}
 use lib.ListN.{length}
 use lib.Dec.{ltb}
 use borrow.Author.Tests.{eqb-true, lt-ltb}
+use Rattle.rules.specs.declared.Node.{Node}
 use Rattle.rules.specs.Lists.{keep, upto, member, isEmpty, on, total}
 use Rattle.rules.specs.Instance.{Instance, Fits, width, covers, meets, count, IsPlan, chosen, columns}
-use Rattle.rules.specs.declared.Node.{Node}
 use Rattle.rules.specs.Node.{mark, isFree, isTaken, isOpen, root}
 use Rattle.rules.specs.Identity.{Completion, rest}
-use Rattle.rules.proofs.Sums.{total-add, total-mul, total-zero, total-two, total-le, total-one, total-ones, total-swap, length-keep}
 use Rattle.rules.proofs.Members.{and-both, not-so, here, kept, member-keep, member-upto, upto-lt, at-table}
+use Rattle.rules.proofs.Sums.{total-add, total-mul, total-zero, total-two, total-le, total-one, total-ones, total-swap}
+use Rattle.rules.proofs.Sums.{length-keep}
 
 pub not-taken : (s : Node) (k : ℕ) → isFree s k ≡ true → isTaken s k ≡ false
 not-taken s k h = rw (eqb-true (mark s k) 1 h)

@@ -13,11 +13,12 @@ use Rattle.rules.specs.Lists.{member, least, pick, on, total}
 use Rattle.rules.specs.Instance.{Instance, Fits, width, price, IsPlan}
 use Rattle.rules.specs.Node.{isFree, isOpen, root, costAt, freeColumns, freeOf, openRows}
 use Rattle.rules.specs.Reduce.{leastOf, candidates, rowFirst, lower, Reduced, reduceOn, reduceBy, reduce}
+use Rattle.rules.proofs.Members.{kept, member-keep, pick-member, least-le, least-at, least-mono, keep-lt, keep-short}
+use Rattle.rules.proofs.Members.{keep-upto}
 use Rattle.rules.proofs.Sums.{total-cong}
-use Rattle.rules.proofs.Members.{kept, member-keep, pick-member, least-le, least-at, least-mono, keep-lt, keep-short, keep-upto}
-use Rattle.rules.proofs.Plans.{Open, FreeIn, root-free, root-comp}
-use Rattle.rules.proofs.Costs.{Good, root-good, lower-good, cost-lower}
+use Rattle.rules.proofs.Plans.{Open, FreeIn, root-free}
 use Rattle.rules.proofs.Rows.{open-in, in-open, free-in, in-free}
+use Rattle.rules.proofs.Costs.{Good, root-good, lower-good, cost-lower}
 
 module _ (p : Instance) where
   -- how many rows can still be used

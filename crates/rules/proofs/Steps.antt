@@ -6,13 +6,13 @@ use native.Mathlib.Omega.{arith}
 use lib.ListN.{length, getD}
 use lib.Dec.{eqb}
 use borrow.Author.Tests.{eqb-true, eqb-false, eq-eqb, ne-eqb}
+use Rattle.rules.specs.declared.Node.{Node}
 use Rattle.rules.specs.Lists.{on}
 use Rattle.rules.specs.Instance.{Instance, Fits, width, covers, meets}
-use Rattle.rules.specs.declared.Node.{Node}
 use Rattle.rules.specs.Node.{mark, isFree, isTaken, isOpen, freeColumns, take, leave}
-use Rattle.rules.proofs.Sums.{total-cong, total-zero, total-at}
-use Rattle.rules.proofs.Members.{at-table}
 use Rattle.rules.specs.Identity.{Completion}
+use Rattle.rules.proofs.Members.{at-table}
+use Rattle.rules.proofs.Sums.{total-cong, total-zero, total-at}
 use Rattle.rules.proofs.Plans.{Free, FreeIn, Sound, not-taken, not-both, apart, clash}
 use Rattle.rules.proofs.Decide.{Decided, stays, goes, joins, gained, redo, undo, decided-sound, still-free, decided-less}
 

@@ -2,22 +2,21 @@
 -- one of its free columns, and is the price of a completion that has none. So the sum search meets demand 3.
 use mathlib.Core.Path.{_≡_, refl, sym, _∙_}
 use mathlib.Core.Bool.{Bool, true, false, _&&_}
-use Prim.Native.Nat.{ℕ, _+_, _<_}
+use Prim.Native.Nat.{ℕ}
 use native.Mathlib.Omega.{arith}
-use lib.ListN.{length}
 use Rattle.rules.specs.declared.Node.{Node}
 use Rattle.rules.specs.Lists.{on}
 use Rattle.rules.specs.Instance.{Instance, Fits, width, price, IsPlan}
-use Rattle.rules.specs.Node.{isFree, costAt, freeOf}
+use Rattle.rules.specs.Node.{isFree, costAt}
 use Rattle.rules.specs.Reduce.{reduce}
 use Rattle.rules.specs.Tree.{joined, sum}
 use Rattle.rules.specs.Demand.{Demand3}
 use Rattle.rules.proofs.Sums.{total-one, total-zero}
-use Rattle.rules.proofs.Plans.{FreeIn, root-comp}
-use Rattle.rules.proofs.Costs.{Good, root-good, take-good, leave-good}
-use Rattle.rules.proofs.Reducing.{Finished, least-free, reduce-done}
+use Rattle.rules.proofs.Plans.{root-comp}
 use Rattle.rules.proofs.Variants.{Lowered, Laws, plain-forces}
 use Rattle.rules.proofs.Demand.{demand-3}
+use Rattle.rules.proofs.Costs.{Good, root-good, take-good, leave-good}
+use Rattle.rules.proofs.Reducing.{Finished, least-free, reduce-done}
 
 none-at : (f x : Bool) (v : ℕ) → (f ≡ true → x ≡ false) → on (f && x) v ≡ 0
 none-at true x v h = rw (h refl)

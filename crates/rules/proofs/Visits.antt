@@ -6,7 +6,6 @@ use mathlib.Core.List.{List, [], _∷_}
 use mathlib.Core.Logic.{_⊎_, inl, inr, ⊎-elim}
 use Prim.Native.Nat.{ℕ, _+_, _≤_, _<_}
 use native.Mathlib.Omega.{arith}
-use lib.ListN.{length}
 use lib.Dec.{eqb, ltb, leb}
 use borrow.Author.Tests.{eq-eqb, lt-ltb, leb-true, leb-false}
 use Rattle.rules.specs.declared.Node.{Node}
@@ -18,14 +17,15 @@ use Rattle.rules.specs.Tree.{Variant, Penalty, just, most, penaltyOf, pl
 use Rattle.rules.specs.Tree.{columnBefore, branchOn, reduced, living, visitBy, visit}
 use Rattle.rules.specs.Identity.{Completion}
 use Rattle.rules.proofs.Walks.{Lawful, reaches-true, at-most-le}
+use Rattle.rules.proofs.Members.{not-so, member-cases, kept, member-keep, member-upto, upto-lt, keep-cong, pick-member}
+use Rattle.rules.proofs.Members.{least-le, keep-short}
 use Rattle.rules.proofs.Sums.{total-cong}
-use Rattle.rules.proofs.Members.{not-so, member-cases, kept, member-keep, member-upto, upto-lt, keep-cong, pick-member, least-le}
-use Rattle.rules.proofs.Members.{keep-short}
 use Rattle.rules.proofs.Plans.{Open, FreeIn, not-taken}
 use Rattle.rules.proofs.Steps.{take-comp, take-less, leave-comp, leave-out, unleave, leave-less}
 use Rattle.rules.proofs.Rows.{size, open-in, in-open, free-in, in-free, some-free}
 use Rattle.rules.proofs.Forcing.{TwoFree}
-use Rattle.rules.proofs.Variants.{ZeroIn, Lowered, TakenOk, Forces, Laws, Follows, lowered-open, lowered-two, lowered-follows}
+use Rattle.rules.proofs.Variants.{ZeroIn, Lowered, TakenOk, Forces, Laws, Follows, lowered-open, lowered-two}
+use Rattle.rules.proofs.Variants.{lowered-follows}
 
 penalty-is : (c : ℕ → ℕ) (js : List ℕ) (d : ℕ) → penaltyOf c js ≡ just d → d ≡ least c js
 unfolding penaltyOf least

@@ -10,8 +10,8 @@ use native.Mathlib.Omega.{arith}
 use lib.ListN.{getD, length-append}
 use lib.Dec.{ltb}
 use borrow.Author.Tests.{leb-true, ltb-true, ltb-false}
-use Rattle.rules.specs.Search.{Incumbent, nothing, plan, reaches, improve, Visit, ended, full, split, Walk, second, enter, walk}
-use Rattle.rules.specs.Search.{nodes, after, Answer, best, none, stopped, finished, answerBy, answerOf}
+use Rattle.rules.specs.Search.{Incumbent, nothing, plan, reaches, improve, Visit, ended, full, split, Walk, second, enter}
+use Rattle.rules.specs.Search.{walk, nodes, after, Answer, best, none, stopped, finished, answerBy, answerOf}
 
 -- a plan is kept, at c or less
 abbrev pub AtMost : Incumbent → ℕ → Type 0

@@ -5,49 +5,12 @@ use Prim.Native.Nat.{ℕ, suc}
 use Rattle.rules.specs.Lists.{keep, from, member, leastFrom, least, pick, isEmpty, first}
 use Rattle.rules.specs.Instance.{Instance, covers, meets}
 use Rattle.rules.specs.Node.{freeColumns, freeOf, openRows, taken, root, take, leave}
-use Rattle.rules.specs.Reduce.{leastOf, candidates, candidate, byOrder, precedes, rowFirst, lower, reduceOn, reduceBy, reduce}
 use Rattle.rules.specs.Force.{rowsWith, askedBy, asked, forceOn, forceBy, force}
-use Rattle.rules.specs.Search.{
-  Incumbent,
-  nothing,
-  plan,
-  reaches,
-  improve,
-  second,
-  enter,
-  walk,
-  after,
-  Answer,
-  best,
-  none,
-  stopped,
-  finished,
-  answerBy,
-  answerOf,
-}
-use Rattle.rules.specs.Tree.{
-  sum,
-  penaltyOf,
-  plus,
-  aboveP,
-  sameP,
-  withoutBound,
-  zeros,
-  dearer,
-  penalty,
-  rowBefore,
-  sharing,
-  columnBefore,
-  branchOn,
-  reduced,
-  living,
-  visitBy,
-  visit,
-  fullTree,
-  boundOf,
-  rootBound,
-  answer,
-}
+use Rattle.rules.specs.Reduce.{leastOf, candidates, candidate, byOrder, precedes, rowFirst, lower, reduceOn, reduceBy, reduce}
+use Rattle.rules.specs.Search.{nothing, plan, reaches, improve, second, enter, walk, after, best, finished, answerBy}
+use Rattle.rules.specs.Search.{answerOf}
+use Rattle.rules.specs.Tree.{penaltyOf, plus, aboveP, sameP, withoutBound, zeros, dearer, penalty, rowBefore, sharing}
+use Rattle.rules.specs.Tree.{columnBefore, branchOn, reduced, living, visitBy, visit, fullTree, boundOf, rootBound, answer}
 use Rattle.rules.specs.Files.{numbered, solved}
 
 -- The five criteria, by the rows in the sequence that reducing uses them, numbered from 1.

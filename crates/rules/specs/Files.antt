@@ -1,53 +1,16 @@
 -- The (M) files of 01 (Files to try), as one table: each file with its node limit, and the answer.
 use mathlib.Core.Path.{_≡_, refl}
-use mathlib.Core.List.{List, [], _∷_, map}
+use mathlib.Core.List.{[], _∷_, map}
 use Prim.Native.Nat.{ℕ, suc}
 use Rattle.rules.specs.Lists.{keep, from, member, leastFrom, least, pick, isEmpty, first}
 use Rattle.rules.specs.Instance.{Instance, covers, meets}
 use Rattle.rules.specs.Node.{freeColumns, freeOf, openRows, taken, root, take, leave}
-use Rattle.rules.specs.Reduce.{leastOf, candidates, candidate, byOrder, precedes, rowFirst, lower, reduceOn, reduceBy, reduce}
 use Rattle.rules.specs.Force.{rowsWith, askedBy, asked, forceOn, forceBy, force}
-use Rattle.rules.specs.Search.{
-  Incumbent,
-  nothing,
-  plan,
-  reaches,
-  improve,
-  second,
-  enter,
-  walk,
-  after,
-  Answer,
-  best,
-  none,
-  stopped,
-  finished,
-  answerBy,
-  answerOf,
-}
-use Rattle.rules.specs.Tree.{
-  sum,
-  penaltyOf,
-  plus,
-  aboveP,
-  sameP,
-  withoutBound,
-  zeros,
-  dearer,
-  penalty,
-  rowBefore,
-  sharing,
-  columnBefore,
-  branchOn,
-  reduced,
-  living,
-  visitBy,
-  visit,
-  fullTree,
-  boundOf,
-  rootBound,
-  answer,
-}
+use Rattle.rules.specs.Reduce.{leastOf, candidates, candidate, byOrder, precedes, rowFirst, lower, reduceOn, reduceBy, reduce}
+use Rattle.rules.specs.Search.{nothing, plan, reaches, improve, second, enter, walk, after, Answer, best, none, stopped}
+use Rattle.rules.specs.Search.{finished, answerBy, answerOf}
+use Rattle.rules.specs.Tree.{sum, penaltyOf, plus, aboveP, sameP, withoutBound, zeros, dearer, penalty, rowBefore, sharing}
+use Rattle.rules.specs.Tree.{columnBefore, branchOn, reduced, living, visitBy, visit, fullTree, boundOf, rootBound, answer}
 
 abbrev once : Instance
 once = record { rows = 1; costs = 5 ∷ []; bodies = (1 ∷ []) ∷ [] }

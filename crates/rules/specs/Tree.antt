@@ -9,8 +9,8 @@ use Rattle.rules.specs.declared.Node.{Node}
 use Rattle.rules.specs.Lists.{keep, least, pick}
 use Rattle.rules.specs.Instance.{Instance, width, span, meets}
 use Rattle.rules.specs.Node.{freeColumns, freeOf, openRows, costAt, take, leave, taken, root}
-use Rattle.rules.specs.Reduce.{reduce, byOrder}
 use Rattle.rules.specs.Force.{Forced, force}
+use Rattle.rules.specs.Reduce.{reduce, byOrder}
 use Rattle.rules.specs.Search.{Incumbent, nothing, reaches, Visit, ended, full, split, Walk, walk, Answer, answerOf}
 
 -- What may differ between searches: the first node, how a node is forced, the bound as a column is taken, reducing, and a column's
