@@ -1,4 +1,5 @@
--- The sum's invariant, floor + reduced = price, stated for any set of open rows: it holds at the root, and taking, leaving and lowering keep it.
+-- The identity holds at the root, and taking, leaving and lowering keep it. Lowering a row moves an amount from the costs of its free
+-- columns to the bound, and every completion has just one of these. So the identity holds for any set of open rows.
 use mathlib.Core.Path.{_≡_, refl, sym}
 use mathlib.Core.Bool.{Bool, true, false, _&&_}
 use Prim.Native.Nat.{ℕ, _+_, _-_, _≤_, _<_}
@@ -11,6 +12,7 @@ use Rattle.rules.specs.Lists.{on, total}
 use Rattle.rules.specs.Instance.{Instance, Fits, width, covers, price}
 use Rattle.rules.specs.Node.{isFree, isTaken, costAt, root, take, leave}
 use Rattle.rules.specs.Reduce.{lower}
+use Rattle.rules.specs.Tree.{joined}
 use Rattle.rules.specs.Identity.{Completion, rest, Identity}
 use Rattle.rules.proofs.Members.{at-table}
 use Rattle.rules.proofs.Sums.{total-cong, total-add, total-add-le, total-at}
@@ -22,7 +24,8 @@ use Rattle.rules.proofs.Steps.{take-decides, take-gains, take-sound, le
 abbrev pub ceiling : Instance → Node → ℕ
 ceiling p s = s .bound + total (width p) (λ k. on (isFree s k) (costAt s k))
 
--- each completion's price is the bound and the present costs of its free columns; and with those of all free columns the bound never passes the file's costs
+-- what holds of every node of the sum search; the last says that the bound and the present costs of all free columns never pass the sum
+-- of the costs in the file
 pub record Good (p : Instance) (s : Node) : Type 0 where
   pub sound : Sound p s
   pub identity : Identity p s
@@ -41,23 +44,33 @@ root-good p F =
       sound = root-sound p F;
       identity = λ X h. omega (
         arith,
-        total-cong (width p) (λ k. on (X k) (c k)) (λ k. on (isFree (root p) k && X k) (costAt (root p) k)) (λ k m. rw (free k m, root-cost p F k m)),
+        total-cong (width p) (λ k. on (X k) (c k)) (λ k. on (isFree (root p) k && X k) (costAt (root p) k))
+            (λ k m. rw (free k m, root-cost p F k m)),
       );
-      within = omega (arith, total-cong (width p) (λ k. on (isFree (root p) k) (costAt (root p) k)) c (λ k m. rw (free k m, root-cost p F k m)));
+      within = omega (
+        arith,
+        total-cong (width p) (λ k. on (isFree (root p) k) (costAt (root p) k)) c (λ k m. rw (free k m, root-cost p F k m)),
+      );
     }
 
 module _ (p : Instance) (s t : Node) (d : (k : ℕ) → k < width p → Decided s t k) where
   -- sums over the free columns of a completion, and over all free columns
   rest-parts : (X : ℕ → Bool) → Completion p t X → (f : ℕ → ℕ) → rest p s X f ≡ gained p s t f + rest p t X f
-  rest-parts X c f = total-add (width p) (λ k. on (isFree s k && X k) (f k)) (λ k. on (isFree s k && isTaken t k) (f k)) (λ k. on (isFree t k && X k) (f k)) (λ k l. go k l (d k l))
+  rest-parts X c f =
+      total-add (width p) (λ k. on (isFree s k && X k) (f k)) (λ k. on (isFree s k && isTaken t k) (f k))
+      (λ k. on (isFree t k && X k) (f k)) (λ k l. go k l (d k l))
     where
-      go : (k : ℕ) → k < width p → Decided s t k → on (isFree s k && X k) (f k) ≡ on (isFree s k && isTaken t k) (f k) + on (isFree t k && X k) (f k)
+      go : (k : ℕ) → k < width p → Decided s t k
+          → on (isFree s k && X k) (f k) ≡ on (isFree s k && isTaken t k) (f k) + on (isFree t k && X k) (f k)
       go k l (stays e) = rw (e, not-both s k) (omega arith)
       go k l (goes q e) = rw (c .agrees k l (rw e), e, q)
       go k l (joins q e) = rw (c .agrees k l (rw e), e, q) (omega arith)
 
-  free-parts : (f : ℕ → ℕ) → gained p s t f + total (width p) (λ k. on (isFree t k) (f k)) ≤ total (width p) (λ k. on (isFree s k) (f k))
-  free-parts f = total-add-le (width p) (λ k. on (isFree s k && isTaken t k) (f k)) (λ k. on (isFree t k) (f k)) (λ k. on (isFree s k) (f k)) (λ k l. go k (f k) (d k l))
+  free-parts : (f : ℕ → ℕ)
+      → gained p s t f + total (width p) (λ k. on (isFree t k) (f k)) ≤ total (width p) (λ k. on (isFree s k) (f k))
+  free-parts f =
+      total-add-le (width p) (λ k. on (isFree s k && isTaken t k) (f k)) (λ k. on (isFree t k) (f k)) (λ k. on (isFree s k) (f k))
+      (λ k l. go k (f k) (d k l))
     where
       go : (k v : ℕ) → Decided s t k → on (isFree s k && isTaken t k) v + on (isFree t k) v ≤ on (isFree s k) v
       go k v (stays e) = rw (e, not-both s k) (omega arith)
@@ -77,16 +90,20 @@ module _ (p : Instance) (F : Fits p) (s : Node) (j : ℕ) (f : Free p s j) where
   unfolding take
   take-rest b = (refl, refl)
 
-  pub take-good : Good p s → Good p (take p s j (s .bound + costAt s j))
+  pub take-good : Good p s → Good p (take p s j (joined s j))
   take-good g =
-      let b : ℕ = s .bound + costAt s j in
-      decided-good p s (take p s j b) (take-decides p F s j f b) g (take-sound p F s j f b (g .sound)) (take-rest b .0) (omega (arith, take-rest b .1, take-gains p F s j f b (costAt s)))
+      let b : ℕ = joined s j in
+      decided-good p s (take p s j b) (take-decides p F s j f b) g (take-sound p F s j f b (g .sound)) (take-rest b .0)
+      (omega (arith, take-rest b .1, take-gains p F s j f b (costAt s)))
 
   pub leave-good : Good p s → Good p (leave s j)
   leave-good g =
-      decided-good p s (leave s j) (leave-decides p F s j f) g (leave-sound p F s j f (g .sound)) (leave-rest p F s j f .0) (omega (arith, leave-rest p F s j f .1, leave-gains p F s j f (costAt s)))
+      let r = leave-rest p F s j f in
+      decided-good p s (leave s j) (leave-decides p F s j f) g (leave-sound p F s j f (g .sound)) (r .0)
+      (omega (arith, r .1, leave-gains p F s j f (costAt s)))
 
-lower-at : (f x v : Bool) (c a : ℕ) → (f ≡ true → v ≡ true → a ≤ c) → on (f && x) c ≡ on (f && x) (on v a) + on (f && x) (c - on (f && v) a)
+lower-at : (f x v : Bool) (c a : ℕ) → (f ≡ true → v ≡ true → a ≤ c)
+    → on (f && x) c ≡ on (f && x) (on v a) + on (f && x) (c - on (f && v) a)
 lower-at true true true c a h = omega (arith, h refl refl)
 lower-at true true false c a h = omega arith
 lower-at true false v c a h = refl
@@ -104,14 +121,16 @@ module _ (p : Instance) (F : Fits p) (s : Node) (i a : ℕ) where
 
   -- row i is open and has a free column j
   module _ (g : Good p s) (o : Open p s i) (j : ℕ) (f : FreeIn p s i j) (fits : (k : ℕ) → FreeIn p s i k → a ≤ costAt s k) where
-    -- floor + reduced = price, for the row's part of it
+    -- a completion has one free column of the row, so the amount leaves its costs once
     lower-parts : (X : ℕ → Bool) → Completion p s X → rest p s X (costAt s) ≡ a + rest p s X (costAt (lower p s i a))
     lower-parts X c =
+        let part : (ℕ → ℕ) → ℕ → ℕ = λ v k. on (isFree s k && X k) (v k) in
         omega (
           arith,
           rest-row p s (g .sound) X c i o a,
-          total-add (width p) (λ k. on (isFree s k && X k) (costAt s k)) (λ k. on (isFree s k && X k) (on (covers p i k) a)) (λ k. on (isFree s k && X k) (costAt (lower p s i a) k))
-              (λ k l. rw (cost-lower k l) (lower-at (isFree s k) (X k) (covers p i k) (costAt s k) a (λ b c. fits k (record { free = record { col = l; is-free = b }; covering = c })))),
+          total-add (width p) (part (costAt s)) (part (λ k. on (covers p i k) a)) (part (costAt (lower p s i a)))
+              (λ k l. rw (cost-lower k l) (lower-at (isFree s k) (X k) (covers p i k) (costAt s k) a
+                  (λ b c. fits k (record { free = record { col = l; is-free = b }; covering = c })))),
         )
 
     lower-within : ceiling p (lower p s i a) ≤ ceiling p s
@@ -120,10 +139,12 @@ module _ (p : Instance) (F : Fits p) (s : Node) (i a : ℕ) where
         omega (
           arith,
           total-at (width p) j (λ k. a) (f .free .col),
-          total-add-le (width p) (λ k. on (eqb k j) a) (λ k. on (isFree s k) (costAt (lower p s i a) k)) (λ k. on (isFree s k) (costAt s k)) (λ k l. go k l (eqb k j) refl),
+          total-add-le (width p) (λ k. on (eqb k j) a) (λ k. on (isFree s k) (costAt (lower p s i a) k))
+              (λ k. on (isFree s k) (costAt s k)) (λ k l. go k l (eqb k j) refl),
         )
       where
-        go : (k : ℕ) → k < width p → (e : Bool) → eqb k j ≡ e → on e a + on (isFree s k) (costAt (lower p s i a) k) ≤ on (isFree s k) (costAt s k)
+        go : (k : ℕ) → k < width p → (e : Bool) → eqb k j ≡ e
+            → on e a + on (isFree s k) (costAt (lower p s i a) k) ≤ on (isFree s k) (costAt s k)
         go k l true e = rw (cost-lower k l, eqb-true k j e, f .free .is-free, f .covering) (omega (arith, fits j f))
         go k l false e = rw (cost-lower k l) (go′ (isFree s k))
           where

@@ -24,7 +24,8 @@ gained p s t f = total (width p) (λ k. on (isFree s k && isTaken t k) (f k))
 
 module _ (p : Instance) (s t : Node) (d : (k : ℕ) → k < width p → Decided s t k) where
   -- the completions of t are those of s that do as t decides
-  pub redo : (X : ℕ → Bool) → Completion p s X → ((k : ℕ) → k < width p → isFree s k ≡ true → isFree t k ≡ false → X k ≡ isTaken t k) → Completion p t X
+  pub redo : (X : ℕ → Bool) → Completion p s X
+      → ((k : ℕ) → k < width p → isFree s k ≡ true → isFree t k ≡ false → X k ≡ isTaken t k) → Completion p t X
   redo X c h = record { plan = c .plan; agrees = λ k l f. go k l f (d k l) }
     where
       go : (k : ℕ) → k < width p → isFree t k ≡ false → Decided s t k → X k ≡ isTaken t k
@@ -40,8 +41,11 @@ module _ (p : Instance) (s t : Node) (d : (k : ℕ) → k < width p → Decided 
       go k l f (goes q e) = absurd (true≢false (sym q ∙ f))
       go k l f (joins q e) = absurd (true≢false (sym q ∙ f))
 
-  taken-parts : (f : ℕ → ℕ) → total (width p) (λ k. on (isTaken t k) (f k)) ≡ total (width p) (λ k. on (isTaken s k) (f k)) + gained p s t f
-  taken-parts f = total-add (width p) (λ k. on (isTaken t k) (f k)) (λ k. on (isTaken s k) (f k)) (λ k. on (isFree s k && isTaken t k) (f k)) (λ k l. go k (f k) (d k l))
+  taken-parts : (f : ℕ → ℕ)
+      → total (width p) (λ k. on (isTaken t k) (f k)) ≡ total (width p) (λ k. on (isTaken s k) (f k)) + gained p s t f
+  taken-parts f =
+      total-add (width p) (λ k. on (isTaken t k) (f k)) (λ k. on (isTaken s k) (f k)) (λ k. on (isFree s k && isTaken t k) (f k))
+      (λ k l. go k (f k) (d k l))
     where
       go : (k v : ℕ) → Decided s t k → on (isTaken t k) v ≡ on (isTaken s k) v + on (isFree s k && isTaken t k) v
       go k v (stays e) = rw (e, not-both s k) (omega arith)
@@ -68,6 +72,7 @@ module _ (p : Instance) (s t : Node) (d : (k : ℕ) → k < width p → Decided 
   decided-less j f n =
       omega (
         arith,
-        keep-lt (isFree s) (isFree t) (upto (width p)) j (λ k m h. still-free k (record { col = upto-lt (width p) k m; is-free = h }) .is-free)
+        keep-lt (isFree s) (isFree t) (upto (width p)) j
+            (λ k m h. still-free k (record { col = upto-lt (width p) k m; is-free = h }) .is-free)
             (member-upto (width p) j (f .col)) (f .is-free) n,
       )

@@ -1,4 +1,5 @@
--- What a node stands for, whatever the objective: its completions.
+-- What a node stands for, whatever the objective: its completions. Each open row is covered by just one of a completion's free columns,
+-- since a sound node's taken columns cover the closed rows once and the open ones not at all.
 use mathlib.Core.Path.{_≡_, refl, sym, ap, _∙_}
 use mathlib.Core.Bool.{Bool, true, false, not, _&&_, false≢true, true≢false}
 use mathlib.Core.List.{List, [], _∷_}
@@ -47,7 +48,9 @@ module _ (p : Instance) where
 
   pub sound-same : (s t : Node) → t .column ≡ s .column → t .row ≡ s .row → Sound s → Sound t
   sound-same s t e r g = record {
-    open-free = λ i k l f. rw r (g .open-free i k l (record { free = record { col = f .free .col; is-free = rw e at (f .free .is-free) }; covering = f .covering }));
+    open-free = λ i k l f.
+        let h : Free s k = record { col = f .free .col; is-free = rw e at (f .free .is-free) } in
+        rw r (g .open-free i k l (record { free = h; covering = f .covering }));
     once = λ i l. rw (e, r) (g .once i l);
   }
 
@@ -73,20 +76,27 @@ module _ (p : Instance) where
   scale true false a = omega arith
   scale false v a = omega arith
 
-  pub rest-row : (s : Node) → Sound s → (X : ℕ → Bool) → Completion p s X → (i : ℕ) → Open s i → (a : ℕ) → rest p s X (λ k. on (covers p i k) a) ≡ a
+  pub rest-row : (s : Node) → Sound s → (X : ℕ → Bool) → Completion p s X → (i : ℕ) → Open s i
+      → (a : ℕ) → rest p s X (λ k. on (covers p i k) a) ≡ a
   rest-row s g X c i o a =
       let f : ℕ → ℕ → ℕ = λ a k. on (isFree s k && X k) (on (covers p i k) a) in
-      omega (arith, rw (rest-once s g X c i o) at (total-mul (width p) a (f a) (f 1) (λ k l. scale (isFree s k && X k) (covers p i k) a)))
+      omega (
+        arith,
+        rw (rest-once s g X c i o) at (total-mul (width p) a (f a) (f 1) (λ k l. scale (isFree s k && X k) (covers p i k) a)),
+      )
 
   -- two columns that share a row
-  pub meets-at : (j k : ℕ) → meets p j k ≡ true → (i : ℕ) × (i < p .rows) × (covers p i j ≡ true) × (covers p i k ≡ true)
-  unfolding meets isEmpty
+  Shared : ℕ → ℕ → Type 0
+  Shared j k = (i : ℕ) × (i < p .rows) × (covers p i j ≡ true) × (covers p i k ≡ true)
+
+  meets-at : (j k : ℕ) → meets p j k ≡ true → Shared j k
+  unfolding Shared meets isEmpty
   meets-at j k h = go (keep t (upto (p .rows))) refl h
     where
       t : ℕ → Bool
       t i = covers p i j && covers p i k
 
-      go : (xs : List ℕ) → keep t (upto (p .rows)) ≡ xs → not (isEmpty xs) ≡ true → (i : ℕ) × (i < p .rows) × (covers p i j ≡ true) × (covers p i k ≡ true)
+      go : (xs : List ℕ) → keep t (upto (p .rows)) ≡ xs → not (isEmpty xs) ≡ true → Shared j k
       go [] e g = absurd (false≢true g)
       go (i ∷ is) e g =
           let m = kept t i (upto (p .rows)) (rw e (here i is)) in
@@ -108,11 +118,12 @@ module _ (p : Instance) where
   apart i j k l h c = not-so (λ e. true≢false (sym (meets-of i j k l e c) ∙ h))
 
   -- no plan has two columns that share a row
-  pub clash : (X : ℕ → Bool) → IsPlan p X → (j k : ℕ) → j < width p → k < width p → (k ≡ j → ⊥) → meets p j k ≡ true → X j ≡ true → X k ≡ false
-  unfolding count
+  pub clash : (X : ℕ → Bool) → IsPlan p X → (j k : ℕ) → j < width p → k < width p → (k ≡ j → ⊥)
+      → meets p j k ≡ true → X j ≡ true → X k ≡ false
+  unfolding count Shared
   clash X h j k a b n m e = go (meets-at j k m) (X k) refl
     where
-      go : (i : ℕ) × (i < p .rows) × (covers p i j ≡ true) × (covers p i k ≡ true) → (x : Bool) → X k ≡ x → x ≡ false
+      go : Shared j k → (x : Bool) → X k ≡ x → x ≡ false
       go r false g = refl
       go r true g =
           let f : ℕ → ℕ = λ l. on (X l) (on (covers p (r .0) l) 1) in
@@ -134,15 +145,19 @@ module _ (p : Instance) where
     unfolding count
     root-sound = record {
       open-free = λ i k l f. root-open i l;
-      once = λ i l. rw (root-open i l)
-          (omega (arith, total-zero (width p) (λ k. on (isTaken (root p) k) (on (covers p i k) 1)) (λ k m. rw (not-taken (root p) k (root-free k m)))));
+      once = λ i l. rw (root-open i l) (omega (
+        arith,
+        total-zero (width p) (λ k. on (isTaken (root p) k) (on (covers p i k) 1))
+            (λ k m. rw (not-taken (root p) k (root-free k m))),
+      ));
     }
 
     pub root-comp : (X : ℕ → Bool) → IsPlan p X → Completion p (root p) X
     root-comp X h = record { plan = h; agrees = λ k l f. absurd (true≢false (sym (root-free k l) ∙ f)) }
 
   -- a plan has no more columns than there are rows, if each column covers a row
-  pub plan-short : ((j : ℕ) → j < width p → (i : ℕ) × (i < p .rows) × (covers p i j ≡ true)) → (js : List ℕ) → keep (chosen js) (columns p) ≡ js → IsPlan p (chosen js) → length js ≤ p .rows
+  pub plan-short : ((j : ℕ) → j < width p → (i : ℕ) × (i < p .rows) × (covers p i j ≡ true))
+      → (js : List ℕ) → keep (chosen js) (columns p) ≡ js → IsPlan p (chosen js) → length js ≤ p .rows
   unfolding count
   plan-short h js e s =
       let f : ℕ → ℕ → ℕ = λ i j. on (chosen js j) (on (covers p i j) 1) in

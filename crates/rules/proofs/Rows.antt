@@ -1,4 +1,5 @@
--- The lists of open rows and of a row's free columns, and what a row asks of a completion.
+-- The lists of open rows and of a row's free columns, and what a row asks of a completion: one of its free columns, for otherwise a sum
+-- that is 1 would be 0.
 use mathlib.Core.Path.{_≡_, refl, _∙_}
 use mathlib.Core.Bool.{Bool, true, false, _&&_}
 use Prim.Native.Nat.{ℕ, suc, _<_}
@@ -50,11 +51,13 @@ module _ (p : Instance) where
   none-at false x v h = refl
 
   -- a completion has one of the free columns of each open row
-  pub some-free : (s : Node) → Sound p s → (i : ℕ) → Open p s i → (X : ℕ → Bool) → Completion p s X → ((k : ℕ) → FreeIn p s i k → X k ≡ true → ⊥) → ⊥
+  pub some-free : (s : Node) → Sound p s → (i : ℕ) → Open p s i → (X : ℕ → Bool) → Completion p s X
+      → ((k : ℕ) → FreeIn p s i k → X k ≡ true → ⊥) → ⊥
   some-free s g i o X c h =
       omega (
         arith,
         rest-once p s g X c i o,
         total-zero (width p) (λ k. on (isFree s k && X k) (on (covers p i k) 1))
-            (λ k l. none-at (isFree s k) (X k) (covers p i k) (λ f v. h k (record { free = record { col = l; is-free = f }; covering = v }))),
+            (λ k l. none-at (isFree s k) (X k) (covers p i k)
+                (λ f v. h k (record { free = record { col = l; is-free = f }; covering = v }))),
       )
