@@ -130,7 +130,7 @@ module _ (p : Instance) (F : Fits p) (s : Node) (i a : ℕ) where
           rest-row p s (g .sound) X c i o a,
           total-add (width p) (part (costAt s)) (part (λ k. on (covers p i k) a)) (part (costAt (lower p s i a)))
               (λ k l. rw (cost-lower k l) (lower-at (isFree s k) (X k) (covers p i k) (costAt s k) a
-                  (λ b c. fits k (record { free = record { col = l; is-free = b }; covering = c })))),
+              (λ b c. fits k (record { free = record { col = l; is-free = b }; covering = c })))),
         )
 
     lower-within : ceiling p (lower p s i a) ≤ ceiling p s

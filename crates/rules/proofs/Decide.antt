@@ -53,10 +53,14 @@ module _ (p : Instance) (s t : Node) (d : (k : ℕ) → k < width p → Decided 
       go k v (joins q e) = rw (e, q, not-taken s k q) (omega arith)
 
   -- t is sound, if the rows of what joins close
-  pub decided-sound : Sound p s → ((i : ℕ) → i < p .rows → gained p s t (λ k. on (covers p i k) 1) + on (isOpen t i) 1 ≡ on (isOpen s i) 1)
+  pub decided-sound : Sound p s
+      → ((i : ℕ) → i < p .rows → gained p s t (λ k. on (covers p i k) 1) + on (isOpen t i) 1 ≡ on (isOpen s i) 1)
       → ((i k : ℕ) → i < p .rows → FreeIn p t i k → isOpen t i ≡ true) → Sound p t
   unfolding count
-  decided-sound g r o = record { open-free = o; once = λ i l. omega (arith, g .once i l, r i l, taken-parts (λ k. on (covers p i k) 1)) }
+  decided-sound g r o = record {
+    open-free = o;
+    once = λ i l. omega (arith, g .once i l, r i l, taken-parts (λ k. on (covers p i k) 1));
+  }
 
   pub still-free : (k : ℕ) → Free p t k → Free p s k
   still-free k f = record { col = f .col; is-free = go (d k (f .col)) }

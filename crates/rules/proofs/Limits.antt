@@ -39,7 +39,7 @@ module _ (n m : ℕ) (k : Incumbent) (d : Walk) (w : Incumbent → Walk) where
   cut-first l false =
       let y : Walk = w (d .end) in
       let shown : getD (d .entries ++ y .entries) m (y .end) ≡ getD (d .entries) m (d .end) =
-          List·getD-append (d .entries) (y .entries) (y .end) m l ∙ at-any (d .entries) m (y .end) (d .end) l in
+      List·getD-append (d .entries) (y .entries) (y .end) m l ∙ at-any (d .entries) m (y .end) (d .end) l in
       rw (lt-ltb (suc m) (suc (length (d .entries ++ y .entries))) (omega (arith, length-append (d .entries) (y .entries))))
       (same (omega arith) refl shown)
 
@@ -132,8 +132,10 @@ module _ {S : Type 0} (visit : S → Incumbent → Visit S) where
   pub limited-cut : (f : ℕ) (s : S) (t : Tally) → t .stopped ≡ false → limited visit f s t ≡ cut (walk visit f s (t .kept)) t
   limited-cut f s t e = go (t .stopped) e
     where
-      go : (b : Bool) → b ≡ false
-          → limited visit f s (tally (t .nodes) (t .left) b (t .kept)) ≡ cut (walk visit f s (t .kept)) (tally (t .nodes) (t .left) b (t .kept))
+      with : Bool → Tally
+      with b = tally (t .nodes) (t .left) b (t .kept)
+
+      go : (b : Bool) → b ≡ false → limited visit f s (with b) ≡ cut (walk visit f s (t .kept)) (with b)
       go true h = absurd (true≢false h)
       go false h = going-cut f s (t .nodes) (t .left) (t .kept)
 

@@ -59,7 +59,8 @@ module _ (p : Instance) where
   parts x t false v h e = rw (h refl) (omega arith)
 
   -- the free columns of a completion cover each open row once
-  pub rest-once : (s : Node) → Sound s → (X : ℕ → Bool) → Completion p s X → (i : ℕ) → Open s i → rest p s X (λ k. on (covers p i k) 1) ≡ 1
+  pub rest-once : (s : Node) → Sound s → (X : ℕ → Bool) → Completion p s X → (i : ℕ) → Open s i
+      → rest p s X (λ k. on (covers p i k) 1) ≡ 1
   unfolding count
   rest-once s g X c i o =
       let v : ℕ → ℕ = λ k. on (covers p i k) 1 in

@@ -80,7 +80,7 @@ module _ (p : Instance) (F : Fits p) where
     unfolding leastOf
     lower-least i =
         rw (lower-free i) (least-mono (costAt (lower p s b a)) (costAt s) (freeOf p s i)
-            (λ k m. omega (arith, cost-lower p F s b a k (free-in p s i k m .free .col))))
+        (λ k m. omega (arith, cost-lower p F s b a k (free-in p s i k m .free .col))))
 
   -- a candidate b, lowered by its least cost
   module _ (s : Node) (b : ℕ) (o : Open p s b) (a : 0 < leastOf p s b) where

@@ -59,5 +59,5 @@ module _ (p : Instance) where
         rest-once p s g X c i o,
         total-zero (width p) (λ k. on (isFree s k && X k) (on (covers p i k) 1))
             (λ k l. none-at (isFree s k) (X k) (covers p i k)
-                (λ f v. h k (record { free = record { col = l; is-free = f }; covering = v }))),
+            (λ f v. h k (record { free = record { col = l; is-free = f }; covering = v }))),
       )

@@ -174,7 +174,7 @@ module _ (p : Instance) (F : Fits p) (s : Node) (j : ℕ) (f : Free p s j) where
   leave-sound g = decided-sound p s (leave s j) leave-decides g
       (λ i l. rw (leave-gains (λ k. on (covers p i k) 1), leave-rest .2) (omega arith))
       (λ i k l h. rw (leave-rest .2) (g .open-free i k l
-          (record { free = still-free p s (leave s j) leave-decides k (h .free); covering = h .covering })))
+      (record { free = still-free p s (leave s j) leave-decides k (h .free); covering = h .covering })))
 
   pub leave-less : length (freeColumns p (leave s j)) < length (freeColumns p s)
   leave-less = decided-less p s (leave s j) leave-decides j f (rw leave-j)

@@ -63,7 +63,7 @@ module _ (p : Instance) (F : Fits p) (o : Variant) (Ok : (ℕ → Bool) → Type
   unfolding penalty member
   pays t i j d z e X out k f x =
       let only : o .present t k ≡ 0 → k ≡ j = λ y. ⊎-elim (λ q. q) (λ q. absurd (false≢true q))
-          (member-cases k j [] (rw z at (in-zero t i k f y))) in
+      (member-cases k j [] (rw z at (in-zero t i k f y))) in
       let n : o .present t k ≡ 0 → ⊥ = λ y. true≢false (sym x ∙ ap X (only y) ∙ out) in
       omega (
         arith,

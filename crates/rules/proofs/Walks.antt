@@ -172,7 +172,7 @@ module _ {C : Type 0} (Ok : C → Type 0) (value : C → ℕ) (Shows : ℕ → L
       unfolding second
       second-report d r w q true e =
           let left-out : (X : C) → Completes z X → AtMost (d .end) (value X) = λ X g.
-              at-most-le (d .end) (reaches-true (d .end) b e) (o .low X g) in
+          at-most-le (d .end) (reaches-true (d .end) b e) (o .low X g) in
           record {
             falls = then (self v) (r .falls);
             cheapest = λ X h. ⊎-elim (r .cheapest X) (left-out X) (o .cases X h);
@@ -182,7 +182,7 @@ module _ {C : Type 0} (Ok : C → Type 0) (value : C → ℕ) (Shows : ℕ → L
           let y : Walk = w (d .end) in
           let g : Report z (d .end) y = q (d .end) (falls-end (r .falls) .valid) in
           let still : (X : C) → Completes a X → AtMost (y .end) (value X) = λ X j.
-              falls-end (g .falls) .no-dearer (value X) (r .cheapest X j) in
+          falls-end (g .falls) .no-dearer (value X) (r .cheapest X j) in
           record {
             falls = then (self v) (falls-join (r .falls) (g .falls));
             cheapest = λ X h. ⊎-elim (still X) (g .cheapest X) (o .cases X h);

@@ -11,7 +11,7 @@ use Rattle.rules.specs.Search.{nothing, plan, reaches, improve, second, 
 use Rattle.rules.specs.Search.{answerOf}
 use Rattle.rules.specs.Tree.{penaltyOf, plus, aboveP, sameP, withoutBound, zeros, dearer, penalty, rowBefore, sharing}
 use Rattle.rules.specs.Tree.{columnBefore, branchOn, reduced, living, visitBy, visit, fullTree, boundOf, rootBound, answer}
-use Rattle.rules.specs.Files.{numbered, solved}
+use Rattle.rules.specs.Files.{numbered, solved, usual}
 
 -- The five criteria, by the rows in the sequence that reducing uses them, numbered from 1.
 abbrev order : Instance → List ℕ
@@ -44,7 +44,8 @@ lowRow = record { rows = 2; costs = 1 ∷ 1 ∷ []; bodies = (1 ∷ []) ∷ (2 �
 orders :
     (order fewFree ∷ order fewLeast ∷ order dearLeast ∷ order shortLeast ∷ order anyShort ∷ order lowRow ∷ [])
     ≡ ((2 ∷ 1 ∷ []) ∷ (2 ∷ []) ∷ (2 ∷ 1 ∷ []) ∷ (3 ∷ 1 ∷ []) ∷ (1 ∷ []) ∷ (1 ∷ 2 ∷ []) ∷ [])
-unfolding keep from member leastFrom least pick isEmpty covers freeColumns freeOf openRows root leastOf candidates candidate byOrder precedes rowFirst lower reduceOn reduceBy reduce
+unfolding keep from member leastFrom least pick isEmpty covers freeColumns freeOf openRows root leastOf candidates candidate
+    byOrder precedes rowFirst lower reduceOn reduceBy reduce
 orders = refl
 
 -- The choice of the row: of two rows with as many columns at cost 0 and the same penalty, row 2 has fewer free columns
@@ -96,10 +97,30 @@ equalBound = record {
 }
 
 cases :
-    map (λ p. solved p 1000000)
-    (fewFreeRow ∷ lowestRow ∷ allZero ∷ leastRatio ∷ zeroOnly ∷ twoZeros ∷ stepBack ∷ equalPlans ∷ equalBound ∷ [])
+    (solved fewFreeRow usual
+    ∷ solved lowestRow usual
+    ∷ solved allZero usual
+    ∷ solved leastRatio usual
+    ∷ solved zeroOnly usual
+    ∷ solved twoZeros usual
+    ∷ solved stepBack usual
+    ∷ solved equalPlans usual
+    ∷ solved equalBound usual
+    ∷ [])
     ≡
-    (best 2 2 3 (1 ∷ 2 ∷ []) ∷ best 2 2 2 (3 ∷ []) ∷ best 2 2 2 (4 ∷ []) ∷ best 2 2 2 (2 ∷ []) ∷ best 2 2 2 (2 ∷ [])
-    ∷ best 6 2 4 (3 ∷ 6 ∷ []) ∷ best 6 3 3 (2 ∷ 4 ∷ []) ∷ best 4 2 3 (2 ∷ 5 ∷ []) ∷ best 11 9 3 (1 ∷ 2 ∷ []) ∷ [])
-unfolding numbered keep from member leastFrom least pick isEmpty first covers meets freeColumns freeOf openRows taken root take leave leastOf candidates candidate byOrder precedes rowFirst lower reduceOn reduceBy reduce rowsWith askedBy asked forceOn forceBy force reaches improve second enter walk finished after answerBy answerOf zeros dearer penaltyOf penalty aboveP sameP rowBefore sharing columnBefore plus withoutBound branchOn reduced living visitBy visit fullTree boundOf rootBound answer
+    (best 2 2 3 (1 ∷ 2 ∷ [])
+    ∷ best 2 2 2 (3 ∷ [])
+    ∷ best 2 2 2 (4 ∷ [])
+    ∷ best 2 2 2 (2 ∷ [])
+    ∷ best 2 2 2 (2 ∷ [])
+    ∷ best 6 2 4 (3 ∷ 6 ∷ [])
+    ∷ best 6 3 3 (2 ∷ 4 ∷ [])
+    ∷ best 4 2 3 (2 ∷ 5 ∷ [])
+    ∷ best 11 9 3 (1 ∷ 2 ∷ [])
+    ∷ [])
+unfolding numbered keep from member leastFrom least pick isEmpty first covers meets freeColumns freeOf openRows taken root
+    take leave leastOf candidates candidate byOrder precedes rowFirst lower reduceOn reduceBy reduce rowsWith askedBy asked
+    forceOn forceBy force reaches improve second enter walk finished after answerBy answerOf zeros dearer penaltyOf penalty
+    aboveP sameP rowBefore sharing columnBefore plus withoutBound branchOn reduced living visitBy visit fullTree boundOf
+    rootBound answer
 cases = refl
