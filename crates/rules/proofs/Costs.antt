@@ -9,7 +9,7 @@ use lib.Dec.{eqb}
 use borrow.Author.Tests.{eqb-true}
 use Rattle.rules.specs.declared.Node.{Node}
 use Rattle.rules.specs.Lists.{on, total}
-use Rattle.rules.specs.Instance.{Instance, Fits, width, covers, price}
+use Rattle.rules.specs.Instance.{Instance, FitsNode, width, covers, price}
 use Rattle.rules.specs.Node.{isFree, isTaken, costAt, root, take, leave}
 use Rattle.rules.specs.Reduce.{lower}
 use Rattle.rules.specs.Tree.{joined}
@@ -31,11 +31,11 @@ pub record Good (p : Instance) (s : Node) : Type 0 where
   pub identity : Identity p s
   pub within : ceiling p s ≤ total (width p) (λ k. getD (p .costs) k 0)
 
-root-cost : (p : Instance) → Fits p → (k : ℕ) → k < width p → costAt (root p) k ≡ getD (p .costs) k 0
+root-cost : (p : Instance) → FitsNode p → (k : ℕ) → k < width p → costAt (root p) k ≡ getD (p .costs) k 0
 unfolding root
 root-cost p F k l = at-table 256 (λ j. getD (p .costs) j 0) k (omega (arith, F .wide))
 
-pub root-good : (p : Instance) → Fits p → Good p (root p)
+pub root-good : (p : Instance) → FitsNode p → Good p (root p)
 unfolding root price
 root-good p F =
     let c : ℕ → ℕ = λ k. getD (p .costs) k 0 in
@@ -85,7 +85,7 @@ module _ (p : Instance) (s t : Node) (d : (k : ℕ) → k < width p → Decided 
     within = rw c (omega (arith, b, g .within, free-parts (costAt s)));
   }
 
-module _ (p : Instance) (F : Fits p) (s : Node) (j : ℕ) (f : Free p s j) where
+module _ (p : Instance) (F : FitsNode p) (s : Node) (j : ℕ) (f : Free p s j) where
   take-rest : (b : ℕ) → (take p s j b .cost ≡ s .cost) × (take p s j b .bound ≡ b)
   unfolding take
   take-rest b = (refl, refl)
@@ -110,7 +110,7 @@ lower-at true false v c a h = refl
 lower-at false x v c a h = refl
 
 -- an amount not above the present costs of the free columns of an open row
-module _ (p : Instance) (F : Fits p) (s : Node) (i a : ℕ) where
+module _ (p : Instance) (F : FitsNode p) (s : Node) (i a : ℕ) where
   pub cost-lower : (k : ℕ) → k < width p → costAt (lower p s i a) k ≡ costAt s k - on (isFree s k && covers p i k) a
   unfolding lower
   cost-lower k l = at-table 256 (λ k. costAt s k - on (isFree s k && covers p i k) a) k (omega (arith, F .wide))

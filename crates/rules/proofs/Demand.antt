@@ -7,7 +7,7 @@ use mathlib.Core.Logic.{_↔_}
 use Prim.Native.Nat.{ℕ, zero, suc, _^_, _≤_, _<_}
 use native.Mathlib.Omega.{arith}
 use Rattle.rules.specs.declared.Node.{Node}
-use Rattle.rules.specs.Instance.{Instance, Fits, width, chosen, Shows}
+use Rattle.rules.specs.Instance.{Instance, FitsNode, width, chosen, Shows}
 use Rattle.rules.specs.Node.{openRows}
 use Rattle.rules.specs.Search.{Incumbent, nothing, Walk, enter, walk, nodes, after, Answer, best, none, stopped, shownBy}
 use Rattle.rules.specs.Search.{nodesOf, isNone, isStopped}
@@ -21,7 +21,7 @@ use Rattle.rules.proofs.Rows.{size, size-fits}
 use Rattle.rules.proofs.Variants.{Lowered, Forces, Laws, lowered-comp}
 use Rattle.rules.proofs.Visits.{Completes, visit-law}
 
-module _ (p : Instance) (F : Fits p) (o : Variant) (Ok : (ℕ → Bool) → Type 0) (value : (ℕ → Bool) → ℕ) (Good : Node → Type 0)
+module _ (p : Instance) (F : FitsNode p) (o : Variant) (Ok : (ℕ → Bool) → Type 0) (value : (ℕ → Bool) → ℕ) (Good : Node → Type 0)
     (L : Laws p o Ok value Good) where
   report : Report Ok value (Shows p Ok value) Good (size p) (Completes p Ok) (o .start) nothing (fullTree o p)
   unfolding fullTree

@@ -11,7 +11,7 @@ use lib.Dec.{eqb}
 use borrow.Author.Tests.{eqb-true, eq-eqb}
 use Rattle.rules.specs.declared.Node.{Node}
 use Rattle.rules.specs.Lists.{member, first}
-use Rattle.rules.specs.Instance.{Instance, Fits, width}
+use Rattle.rules.specs.Instance.{Instance, FitsNode, width}
 use Rattle.rules.specs.Node.{freeOf, openRows, take}
 use Rattle.rules.specs.Force.{Asked, dead, forced, settled, rowsWith, askedBy, asked, Forced, forceOn, forceBy, force}
 use Rattle.rules.specs.Identity.{Completion}
@@ -67,7 +67,7 @@ module _ (p : Instance) where
           omega arith
 
   -- the only free column of an open row is in every completion
-  module _ (F : Fits p) (s : Node) (i : ℕ) (o : Open p s i) (j : ℕ) (e : freeOf p s i ≡ j ∷ []) where
+  module _ (F : FitsNode p) (s : Node) (i : ℕ) (o : Open p s i) (j : ℕ) (e : freeOf p s i ≡ j ∷ []) where
     forced-free : FreeIn p s i j
     forced-free = free-in p s i j (rw e (here j []))
 
@@ -76,7 +76,7 @@ module _ (p : Instance) where
     forced-comp g b X c = take-comp p F s j (forced-free .free) b X c (so (λ x. some-free p s g i o X c (λ k f y.
         ⊎-elim (λ q. true≢false (sym y ∙ ap X q ∙ x)) false≢true (member-cases k j [] (rw e at (in-free p s i k f))))))
 
-module _ (p : Instance) (F : Fits p) (join : Node → ℕ → ℕ) where
+module _ (p : Instance) (F : FitsNode p) (join : Node → ℕ → ℕ) where
   -- for a loop: the fuel does not matter, so forcing is one step and then forcing
   force-on-same : (s : Node) (a : Asked) → Asks p s a → (w u : Node → Forced) → ((t : Node) → size p t < size p s → w t ≡ u t)
       → forceOn join a p s w ≡ forceOn join a p s u

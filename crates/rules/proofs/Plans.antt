@@ -10,7 +10,7 @@ use lib.Dec.{ltb}
 use borrow.Author.Tests.{eqb-true, lt-ltb}
 use Rattle.rules.specs.declared.Node.{Node}
 use Rattle.rules.specs.Lists.{keep, upto, member, isEmpty, on, total}
-use Rattle.rules.specs.Instance.{Instance, Fits, width, covers, meets, count, IsPlan, chosen, columns}
+use Rattle.rules.specs.Instance.{Instance, FitsNode, width, covers, meets, count, IsPlan, chosen, columns}
 use Rattle.rules.specs.Node.{mark, isFree, isTaken, isOpen, root}
 use Rattle.rules.specs.Identity.{Completion, rest}
 use Rattle.rules.proofs.Members.{and-both, not-so, here, kept, member-keep, member-upto, upto-lt, at-table}
@@ -133,7 +133,7 @@ module _ (p : Instance) where
           absurd (omega (arith, total-two (width p) j k f a b n, h (r .0) (r .1)))
 
   -- the root's tables have a place for each row and column
-  module _ (F : Fits p) where
+  module _ (F : FitsNode p) where
     root-open : (i : ℕ) → i < p .rows → isOpen (root p) i ≡ true
     unfolding root
     root-open i l = rw (at-table 64 (λ i. on (ltb i (p .rows)) 1) i (omega (arith, F .tall)), lt-ltb i (p .rows) l)

@@ -10,7 +10,7 @@ use lib.Dec.{ltb}
 use borrow.Author.Tests.{ltb-true, lt-ltb, le-ltb}
 use Rattle.rules.specs.declared.Node.{Node}
 use Rattle.rules.specs.Lists.{member, least, pick, on, total}
-use Rattle.rules.specs.Instance.{Instance, Fits, width, price, IsPlan}
+use Rattle.rules.specs.Instance.{Instance, FitsNode, width, price, IsPlan}
 use Rattle.rules.specs.Node.{isFree, isOpen, root, costAt, freeColumns, freeOf, openRows}
 use Rattle.rules.specs.Reduce.{leastOf, candidates, rowFirst, lower, Reduced, reduceOn, reduceBy, reduce}
 use Rattle.rules.proofs.Members.{kept, member-keep, pick-member, least-le, least-at, least-mono, keep-lt, keep-short}
@@ -65,7 +65,7 @@ module _ (p : Instance) where
     pub same-row : t .row ≡ s .row
     pub done : (i : ℕ) → Open p t i → leastOf p t i ≡ 0
 
-module _ (p : Instance) (F : Fits p) where
+module _ (p : Instance) (F : FitsNode p) where
   -- row b lowered by a
   module _ (s : Node) (b a : ℕ) where
     lower-open : openRows p (lower p s b a) ≡ openRows p s

@@ -6,7 +6,7 @@ use Prim.Native.Nat.{ℕ}
 use native.Mathlib.Omega.{arith}
 use Rattle.rules.specs.declared.Node.{Node}
 use Rattle.rules.specs.Lists.{on}
-use Rattle.rules.specs.Instance.{Instance, Fits, width, price, IsPlan}
+use Rattle.rules.specs.Instance.{Instance, FitsNode, width, price, IsPlan}
 use Rattle.rules.specs.Node.{isFree, costAt}
 use Rattle.rules.specs.Reduce.{reduce}
 use Rattle.rules.specs.Tree.{joined, sum}
@@ -22,7 +22,7 @@ none-at : (f x : Bool) (v : ℕ) → (f ≡ true → x ≡ false) → on (f && x
 none-at true x v h = rw (h refl)
 none-at false x v h = refl
 
-module _ (p : Instance) (F : Fits p) where
+module _ (p : Instance) (F : FitsNode p) where
   sum-lowered : (s : Node) → Good p s → Lowered p (sum p) (Good p) s (reduce p s .node)
   sum-lowered s g =
       let t : Node = reduce p s .node in

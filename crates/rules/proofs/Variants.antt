@@ -6,7 +6,7 @@ use Prim.Native.Nat.{ℕ, _+_, _≤_, _<_}
 use native.Mathlib.Omega.{arith}
 use lib.ListN.{length}
 use Rattle.rules.specs.declared.Node.{Node}
-use Rattle.rules.specs.Instance.{Instance, Fits, IsPlan, chosen}
+use Rattle.rules.specs.Instance.{Instance, FitsNode, IsPlan, chosen}
 use Rattle.rules.specs.Node.{freeColumns, freeOf, taken, take, leave}
 use Rattle.rules.specs.Force.{Forced, force}
 use Rattle.rules.specs.Tree.{Variant}
@@ -85,7 +85,7 @@ module _ (p : Instance) (o : Variant) (Good : Node → Type 0) (s t : Node) (l :
   }
 
 -- forcing alone, where every plan is allowed
-module _ (p : Instance) (F : Fits p) (join : Node → ℕ → ℕ) (Good : Node → Type 0) (sound : (s : Node) → Good s → Sound p s)
+module _ (p : Instance) (F : FitsNode p) (join : Node → ℕ → ℕ) (Good : Node → Type 0) (sound : (s : Node) → Good s → Sound p s)
     (taking : (s : Node) (j : ℕ) → Free p s j → Good s → Good (take p s j (join s j))) where
   pub plain-forces : (s : Node) → Good s → Forces p (IsPlan p) Good s (force join p s)
   plain-forces s g =

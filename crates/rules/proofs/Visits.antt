@@ -10,7 +10,7 @@ use lib.Dec.{eqb, ltb, leb}
 use borrow.Author.Tests.{eq-eqb, lt-ltb, leb-true, leb-false}
 use Rattle.rules.specs.declared.Node.{Node}
 use Rattle.rules.specs.Lists.{on, keep, upto, member, least, pick}
-use Rattle.rules.specs.Instance.{Instance, Fits, width, covers, count, IsPlan, chosen, Shows}
+use Rattle.rules.specs.Instance.{Instance, FitsNode, width, covers, count, IsPlan, chosen, Shows}
 use Rattle.rules.specs.Node.{isTaken, isOpen, freeColumns, freeOf, openRows, taken, take, leave}
 use Rattle.rules.specs.Search.{Incumbent, reaches, Visit, ended, full}
 use Rattle.rules.specs.Tree.{Variant, Penalty, just, most, penaltyOf, plus, withoutBound, zeros, dearer, penalty, rowBefore}
@@ -36,7 +36,7 @@ penalty-is c (j ∷ js) d e = cc
 abbrev pub Completes : Instance → ((ℕ → Bool) → Type 0) → Node → (ℕ → Bool) → Type 0
 Completes p Ok s X = Ok X × Completion p s X
 
-module _ (p : Instance) (F : Fits p) (o : Variant) (Ok : (ℕ → Bool) → Type 0) (value : (ℕ → Bool) → ℕ) (Good : Node → Type 0)
+module _ (p : Instance) (F : FitsNode p) (o : Variant) (Ok : (ℕ → Bool) → Type 0) (value : (ℕ → Bool) → ℕ) (Good : Node → Type 0)
     (L : Laws p o Ok value Good) where
   abbrev pub Law : Node → Incumbent → Visit Node → Type 0
   Law = Lawful Ok value (Shows p Ok value) Good (size p) (Completes p Ok)
