@@ -16,7 +16,8 @@ use Rattle.rules.specs.Tree.{joined}
 use Rattle.rules.specs.Identity.{Completion, rest, Identity}
 use Rattle.rules.proofs.Members.{at-table}
 use Rattle.rules.proofs.Sums.{total-cong, total-add, total-add-le, total-at}
-use Rattle.rules.proofs.Plans.{Open, Free, FreeIn, Sound, rest-row, not-both, root-sound, root-free, comp-same, sound-same}
+use Rattle.rules.proofs.Plans.{Open, Free, FreeIn, Sound, rest-row, not-both, root-sound, root-free, root-cost, comp-same}
+use Rattle.rules.proofs.Plans.{sound-same}
 use Rattle.rules.proofs.Decide.{Decided, stays, goes, joins, gained, undo}
 use Rattle.rules.proofs.Steps.{take-decides, take-gains, take-sound, leave-decides, leave-gains, leave-rest, leave-sound}
 
@@ -30,10 +31,6 @@ pub record Good (p : Instance) (s : Node) : Type 0 where
   pub sound : Sound p s
   pub identity : Identity p s
   pub within : ceiling p s ≤ total (width p) (λ k. getD (p .costs) k 0)
-
-root-cost : (p : Instance) → FitsNode p → (k : ℕ) → k < width p → costAt (root p) k ≡ getD (p .costs) k 0
-unfolding root
-root-cost p F k l = at-table 256 (λ j. getD (p .costs) j 0) k (omega (arith, F .wide))
 
 pub root-good : (p : Instance) → FitsNode p → Good p (root p)
 unfolding root price

@@ -5,13 +5,13 @@ use mathlib.Core.Bool.{Bool, true, false, not, _&&_, false≢true, true≢false}
 use mathlib.Core.List.{List, [], _∷_}
 use Prim.Native.Nat.{ℕ, _+_, _*_, _≤_, _<_}
 use native.Mathlib.Omega.{arith}
-use lib.ListN.{length}
+use lib.ListN.{length, getD}
 use lib.Dec.{ltb}
 use borrow.Author.Tests.{eqb-true, lt-ltb}
 use Rattle.rules.specs.declared.Node.{Node}
 use Rattle.rules.specs.Lists.{keep, upto, member, isEmpty, on, total}
 use Rattle.rules.specs.Instance.{Instance, FitsNode, width, covers, meets, count, IsPlan, chosen, columns}
-use Rattle.rules.specs.Node.{mark, isFree, isTaken, isOpen, root}
+use Rattle.rules.specs.Node.{mark, isFree, isTaken, isOpen, costAt, root}
 use Rattle.rules.specs.Identity.{Completion, rest}
 use Rattle.rules.proofs.Members.{and-both, not-so, here, kept, member-keep, member-upto, upto-lt, at-table}
 use Rattle.rules.proofs.Sums.{total-add, total-mul, total-zero, total-two, total-le, total-one, total-ones, total-swap}
@@ -141,6 +141,10 @@ module _ (p : Instance) where
     pub root-free : (k : ℕ) → k < width p → isFree (root p) k ≡ true
     unfolding root
     root-free k l = rw (at-table 256 (λ j. on (ltb j (width p)) 1) k (omega (arith, F .wide)), lt-ltb k (width p) l)
+
+    pub root-cost : (k : ℕ) → k < width p → costAt (root p) k ≡ getD (p .costs) k 0
+    unfolding root
+    root-cost k l = at-table 256 (λ j. getD (p .costs) j 0) k (omega (arith, F .wide))
 
     pub root-sound : Sound (root p)
     unfolding count
