@@ -14,7 +14,7 @@ use Rattle.rules.specs.Node.{mark, isFree, isTaken, isOpen, freeColumns,
 use Rattle.rules.specs.Identity.{Completion}
 use Rattle.rules.proofs.Members.{at-table}
 use Rattle.rules.proofs.Sums.{total-cong, total-zero, total-at}
-use Rattle.rules.proofs.Plans.{Free, FreeIn, Sound, not-taken, not-both, apart, clash}
+use Rattle.rules.proofs.Plans.{Free, FreeIn, Sound, not-both, apart, clash}
 use Rattle.rules.proofs.Decide.{Decided, stays, goes, joins, gained, redo, undo, decided-sound, still-free, decided-less}
 
 -- what becomes of a mark as column j is taken
@@ -67,22 +67,6 @@ module _ (p : Instance) (F : FitsNode p) (s : Node) (j : ℕ) (f : Free p s j) (
       go k (itself q h) = rw (h, q, f .is-free, eq-eqb j j refl)
       go k (drops n q m h) = rw (h, ne-eqb k j n, and-false (isFree s k))
       go k (keeps n m h) = rw (h, ne-eqb k j n, not-both s k)
-
-  pub take-only : (k : ℕ) → Free p s k → isTaken (take p s j b) k ≡ true → k ≡ j
-  take-only k h e = go (at-take p F s j b k (h .col))
-    where
-      go : At-take p s j b k → k ≡ j
-      go (itself q m) = q
-      go (drops n q m w) = absurd (false≢true (rw w at e))
-      go (keeps n m w) = absurd (true≢false (sym (rw w at e) ∙ not-taken s k (h .is-free)))
-
-  pub take-in : (X : ℕ → Bool) → Completion p (take p s j b) X → X j ≡ true
-  take-in X c = go (at-take p F s j b j (f .col))
-    where
-      go : At-take p s j b j → X j ≡ true
-      go (itself q h) = rw h at (c .agrees j (f .col) (rw h))
-      go (drops n q m h) = absurd (n refl)
-      go (keeps n m h) = absurd (n refl)
 
   -- the completions of the taking branch are those with column j
   pub take-comp : (X : ℕ → Bool) → Completion p s X → X j ≡ true → Completion p (take p s j b) X
@@ -143,13 +127,6 @@ module _ (p : Instance) (F : FitsNode p) (s : Node) (j : ℕ) (f : Free p s j) w
       go : (k : ℕ) (b : Bool) → mark (leave s j) k ≡ cond b 0 (mark s k) → on (isFree s k && isTaken (leave s j) k) (v k) ≡ 0
       go k true h = rw (h, and-false (isFree s k))
       go k false h = rw (h, not-both s k)
-
-  pub leave-none : (k : ℕ) → Free p s k → isTaken (leave s j) k ≡ true → ⊥
-  leave-none k h e = go (eqb k j) (leave-at k (h .col))
-    where
-      go : (b : Bool) → mark (leave s j) k ≡ cond b 0 (mark s k) → ⊥
-      go true m = false≢true (rw m at e)
-      go false m = true≢false (sym (rw m at e) ∙ not-taken s k (h .is-free))
 
   -- the completions of the leaving branch are those without column j
   pub leave-comp : (X : ℕ → Bool) → Completion p s X → X j ≡ false → Completion p (leave s j) X
