@@ -5,11 +5,11 @@ use Prim.Native.Nat.{ℕ, zero, suc, _+_, _*_, _≤_, _<_}
 use native.Mathlib.Nat.{add-zero, add-assoc}
 use native.Mathlib.Numerals.{add-one}
 use native.Mathlib.Omega.{arith}
-use lib.ListN.{length, getD, drop, drop-of-length-le}
+use lib.ListN.{length, getD, drop, drop-of-length-le, length-map}
 use lib.Seq.{drop-cons, getD-drop, drop-drop}
 use Rattle.endian.specs.Bytes.{at16, at32}
 use Rattle.dutyfile.specs.declared.Entry.{Entry}
-use Rattle.dutyfile.specs.File.{columnsIn, bodiesAt, entryOf, entriesOf, entries}
+use Rattle.dutyfile.specs.File.{columnsIn, bodiesAt, entryOf, entriesOf, entries, costOf, sizeOf, parse}
 
 -- an entry from its three numbers
 pub entry-made : (s : List ℕ) (k c a z : ℕ) → c ≡ at32 s k → a ≡ at16 s (k + 4) → z ≡ at16 s (k + 6) →
@@ -33,6 +33,14 @@ entriesOf-at (suc k) (suc j) b d h =
 pub length-entries : (s : List ℕ) → length (entries s) ≡ columnsIn s
 unfolding entries
 length-entries s = length-entriesOf (columnsIn s) (drop 8 s)
+
+pub length-costs : (s : List ℕ) → length (parse s .costs) ≡ columnsIn s
+unfolding parse
+length-costs s = length-map (entries s) costOf ∙ length-entries s
+
+pub length-lengths : (s : List ℕ) → length (parse s .lengths) ≡ columnsIn s
+unfolding parse
+length-lengths s = length-map (entries s) sizeOf ∙ length-entries s
 
 pub entries-at : (s : List ℕ) (j : ℕ) (d : Entry) → j < columnsIn s → getD (entries s) j d ≡ entryOf (drop (bodiesAt j) s)
 unfolding entries

@@ -1,6 +1,6 @@
 -- What it means that the tests pass: the facts about the numbers, and back.
-use mathlib.Core.Path.{_≡_, refl, _∙_}
-use mathlib.Core.Bool.{Bool, true, false, _&&_}
+use mathlib.Core.Path.{_≡_, _∙_}
+use mathlib.Core.Bool.{true}
 use mathlib.Core.List.{List, [], _∷_, map}
 use Prim.Native.Nat.{ℕ, _+_, _≤_}
 use native.Mathlib.Omega.{arith}
@@ -10,21 +10,13 @@ use borrow.Author.Tests.{leb-true, eqb-true, le-leb, eq-eqb}
 use Rattle.endian.specs.Bytes.{same}
 use Rattle.refusals.specs.Refusals.{Fault, fine, ask, _then_}
 use Rattle.refusals.proofs.Laws.{both, asked, goes-on, passes}
+use Rattle.rules.proofs.Members.{and-both}
 use Rattle.dutyfile.specs.declared.Entry.{Entry}
 use Rattle.dutyfile.specs.File.{magic, rowsIn, columnsIn, bodiesAt, entries, sizeOf, parse, sum}
 use Rattle.dutyfile.specs.Faults.{within, countsFault, columnFault, entryFault, entriesFault, headerFault, contentsFault, endFault, rowsFault, fileFault}
 
 pub all-pass : {a b : Fault} → a ≡ fine → b ≡ fine → (a then b) ≡ fine
 all-pass {b = b} e f = goes-on b e ∙ f
-
-and-left : (a b : Bool) → (a && b) ≡ true → a ≡ true
-and-left true b e = refl
-and-left false b e = e
-
-and-right : (a b : Bool) → (a && b) ≡ true → b ≡ true
-and-right true b e = e
-and-right false true e = refl
-and-right false false e = e
 
 -- a number in its range
 pub record Within (low high x : ℕ) : Type 0 where
@@ -33,8 +25,8 @@ pub record Within (low high x : ℕ) : Type 0 where
 
 pub ask-within : (low high x k : ℕ) → ask (within low high x) k ≡ fine → Within low high x
 ask-within low high x k e =
-    let t = asked (within low high x) k e in
-    record { least = leb-true low x (and-left (leb low x) (leb x high) t); most = leb-true x high (and-right (leb low x) (leb x high) t) }
+    let t = and-both {a = leb low x} {b = leb x high} (asked (within low high x) k e) in
+    record { least = leb-true low x (t .0); most = leb-true x high (t .1) }
 
 pub within-asks : (low high x k : ℕ) → Within low high x → ask (within low high x) k ≡ fine
 unfolding ask

@@ -1,13 +1,17 @@
 -- A list that rises, as a loop meets it: what is left of it from a place on, a step further and at its end.
 use mathlib.Core.Path.{_≡_, refl}
-use mathlib.Core.Bool.{true, false}
+use mathlib.Core.Bool.{true, false, _&&_}
 use mathlib.Core.List.{List, [], _∷_}
-use Prim.Native.Nat.{ℕ, _+_, _≤_, _<_}
-use borrow.Author.Tests.{lt-ltb, le-ltb, le-leb, lt-leb}
+use Prim.Native.Nat.{ℕ, zero, suc, _+_, _≤_, _<_}
+use native.Mathlib.Omega.{arith}
+use lib.Dec.{leb, ltb}
+use borrow.Author.Tests.{lt-ltb, le-ltb, le-leb, lt-leb, ltb-true, leb-true, ne-eqb}
 use lib.ListN.{length, getD, drop, drop-of-length-le}
 use Rattle.endian.proofs.Parts.{drop-step}
 use Rattle.refusals.specs.Refusals.{fine, fault}
-use Rattle.refusals.proofs.Laws.{stops-at, goes-on, passes, fails}
+use Rattle.refusals.proofs.Laws.{stops-at, goes-on, passes, fails, both, asked}
+use Rattle.rules.specs.Lists.{member}
+use Rattle.rules.proofs.Members.{and-both}
 use Rattle.dutyfile.specs.Faults.{rising, bodiesFault}
 
 module _ (xs : List ℕ) (low high i : ℕ) (inside : i < length xs) where
@@ -39,3 +43,47 @@ bodies-next m b bs e = goes-on _ (passes 9 e)
 pub bodies-none : (m : ℕ) → bodiesFault m [] ≡ fine
 unfolding bodiesFault
 bodies-none m = refl
+
+-- the parts of a test that passes
+pub rising-cons : (low high x : ℕ) (xs : List ℕ) → rising low high (x ∷ xs) ≡ true → (low < x) × (x ≤ high) × (rising x high xs ≡ true)
+unfolding rising
+rising-cons low high x xs e =
+    let a = and-both {a = ltb low x} {b = leb x high && rising x high xs} e in
+    let b = and-both {a = leb x high} {b = rising x high xs} (a .1) in
+    (ltb-true low x (a .0), leb-true x high (b .0), b .1)
+
+-- of a rising list: each place is within the bounds, no number up to the lower one is there, and it is no longer than its range
+pub rising-at : (low high : ℕ) (xs : List ℕ) (k : ℕ) → rising low high xs ≡ true → k < length xs → (low < getD xs k 0) × (getD xs k 0 ≤ high)
+rising-at low high [] k e h = absurd (omega arith)
+rising-at low high (x ∷ xs) zero e h = let c = rising-cons low high x xs e in (c .0, c .1)
+rising-at low high (x ∷ xs) (suc k) e h =
+    let c = rising-cons low high x xs e in
+    let r = rising-at x high xs k (c .2) (omega arith) in
+    (omega (arith, c .0, r .0), r .1)
+
+pub rising-none : (low high : ℕ) (xs : List ℕ) (a : ℕ) → rising low high xs ≡ true → a ≤ low → member a xs ≡ false
+unfolding member
+rising-none low high [] a e h = refl
+rising-none low high (x ∷ xs) a e h =
+    let c = rising-cons low high x xs e in
+    simp (ne-eqb a x (λ q. omega (arith, c .0, q)), rising-none x high xs a (c .2) (omega (arith, c .0)))
+
+pub rising-short : (low high : ℕ) (xs : List ℕ) → rising low high xs ≡ true → low ≤ high → low + length xs ≤ high
+rising-short low high [] e h = omega arith
+rising-short low high (x ∷ xs) e h =
+    let c = rising-cons low high x xs e in
+    omega (arith, c .0, rising-short x high xs (c .2) (c .1))
+
+pub rising-wider : (low high top : ℕ) (xs : List ℕ) → rising low high xs ≡ true → high ≤ top → rising low top xs ≡ true
+unfolding rising
+rising-wider low high top [] e h = refl
+rising-wider low high top (x ∷ xs) e h =
+    let c = rising-cons low high x xs e in
+    simp (lt-ltb low x (c .0), le-leb x top (omega (arith, c .1)), rising-wider x high top xs (c .2) h)
+
+-- bodies that pass: each rises, and so does the empty list that stands for any other
+pub bodies-rise : (m : ℕ) (bs : List (List ℕ)) (j : ℕ) → bodiesFault m bs ≡ fine → rising 0 m (getD bs j []) ≡ true
+unfolding bodiesFault rising
+bodies-rise m [] j e = refl
+bodies-rise m (b ∷ bs) zero e = asked (rising 0 m b) 9 (both _ _ e .0)
+bodies-rise m (b ∷ bs) (suc j) e = bodies-rise m bs j (both _ _ e .1)

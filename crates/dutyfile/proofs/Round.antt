@@ -7,7 +7,7 @@ use Prim.Native.Nat.{ℕ, zero, suc, _+_, _*_, _≤_, _<_}
 use native.Mathlib.Nat.{add-zero}
 use native.Mathlib.Omega.{arith}
 use borrow.Author.Tests.{eq-eqb, eqb-true}
-use lib.ListN.{length, getD, take, drop, length-append, length-map, length-drop}
+use lib.ListN.{length, getD, take, drop, length-append, length-drop}
 use lib.Seq.{drop-cons, drop-drop, drop-at, getD-drop, getD-take}
 use Rattle.endian.specs.Bytes.{same, at16, at32, bytes16, bytes32}
 use Rattle.endian.proofs.Round.{join16-split, join32-split, split16-join, split32-join, same-true}
@@ -17,7 +17,7 @@ use Rattle.dutyfile.specs.declared.Entry.{Entry}
 use Rattle.dutyfile.specs.declared.Shape.{Shape}
 use Rattle.dutyfile.specs.File.{Lists, magic, rowsIn, columnsIn, bodiesAt, entryOf, entriesOf, entries, costOf, sizeOf, parse, contents, header, render, sum, bodies}
 use Rattle.dutyfile.specs.Faults.{countsFault, columnFault, entriesFault, columnsFault, bodiesFault, rowsFault, fileFault, numbersFault, listsFault, reading, writing}
-use Rattle.dutyfile.proofs.Entries.{length-entries}
+use Rattle.dutyfile.proofs.Entries.{length-costs, length-lengths}
 use Rattle.dutyfile.proofs.Facts.{all-pass, within-asks, Counts, counts-fine, Column, column-fine, entry-fine, fine-entry, length-numbers, Accepted, file-fine, fine-file}
 
 -- From lists to a file and back.
@@ -220,14 +220,6 @@ columns-pass m n t (e ∷ es) p =
     all-pass (f .column) (columns-pass m n (t + e .size) es (f .rest))
 
 module _ (s : List ℕ) (y : Bytes s) (a : Accepted s) where
-  length-costs : length (parse s .costs) ≡ columnsIn s
-  unfolding parse
-  length-costs = length-map (entries s) costOf ∙ length-entries s
-
-  length-lengths : length (parse s .lengths) ≡ columnsIn s
-  unfolding parse
-  length-lengths = length-map (entries s) sizeOf ∙ length-entries s
-
   after-front : contents (bodiesAt (columnsIn s)) (parse s .costs) (parse s .lengths) ++ parse s .numbers ≡ drop 8 s
   unfolding parse entries
   after-front =
@@ -240,14 +232,14 @@ module _ (s : List ℕ) (y : Bytes s) (a : Accepted s) where
   unfolding render header parse
   bytes-back =
       let h = a .walked .header in
-      rw (length-costs, after-front) (header-bytes s y (h .long) (h .marked))
+      rw (length-costs s, after-front) (header-bytes s y (h .long) (h .marked))
 
   lists-pass : listsFault (parse s) ≡ fine
   unfolding listsFault numbersFault countsFault rowsFault parse
   lists-pass =
       let h = a .walked .header in
-      all-pass (rw length-costs (all-pass (within-asks 1 64 _ 2 (h .counts .rows)) (within-asks 1 256 _ 2 (h .counts .columns))))
-      (all-pass (passes 13 (eq-eqb _ _ (length-lengths ∙ sym length-costs)))
+      all-pass (rw (length-costs s) (all-pass (within-asks 1 64 _ 2 (h .counts .rows)) (within-asks 1 256 _ 2 (h .counts .columns))))
+      (all-pass (passes 13 (eq-eqb _ _ (length-lengths s ∙ sym (length-costs s))))
       (all-pass (columns-pass (rowsIn s) (columnsIn s) 0 (entries s) (a .walked .contents))
       (all-pass (passes 13 (eq-eqb _ _ (length-numbers s (a .walked))))
       (a .rising))))

@@ -5,14 +5,14 @@ use mathlib.Core.List.{List, [], _∷_}
 use Prim.Native.Nat.{ℕ, _+_, _-_, _≤_, _<_}
 use native.Mathlib.Numerals.{add-one}
 use native.Mathlib.Omega.{arith}
-use lib.ListN.{length, take, drop, length-map, drop-of-length-le}
+use lib.ListN.{length, take, drop, drop-of-length-le}
 use lib.Seq.{drop-cons}
 use Rattle.refusals.specs.Refusals.{fine, fault}
 use Rattle.dutyfile.specs.declared.Entry.{Entry}
-use Rattle.dutyfile.specs.File.{rowsIn, columnsIn, bodiesAt, entryOf, entries, sizeOf, parse, bodies}
+use Rattle.dutyfile.specs.File.{rowsIn, columnsIn, bodiesAt, entryOf, parse, bodies}
 use Rattle.dutyfile.specs.Faults.{rising, headerFault, contentsFault, endFault, bodiesFault, rowsFault}
 use Rattle.dutyfile.proofs.Rising.{bodies-stop, bodies-next, bodies-none}
-use Rattle.dutyfile.proofs.Entries.{length-entries}
+use Rattle.dutyfile.proofs.Entries.{length-lengths}
 use Rattle.dutyfile.proofs.Facts.{Walked, walk-fine}
 use Rattle.dutyfile.proofs.Columns.{ColumnAt, column-at, length-bodies}
 
@@ -36,8 +36,7 @@ testing-start s rows columns h c e r n =
 
 module _ (s : List ℕ) (rows columns j : ℕ) (w : Testing s rows columns j) where
   count : length (fileBodies s) ≡ columns
-  unfolding parse
-  count = length-bodies _ _ ∙ length-map (entries s) sizeOf ∙ length-entries s ∙ sym (w .columns-is)
+  count = length-bodies _ _ ∙ length-lengths s ∙ sym (w .columns-is)
 
   module _ (inside : j < columns) (e : Entry) (is : e ≡ entryOf (drop (bodiesAt j) s)) where
     pub testing-column : ColumnAt s j e

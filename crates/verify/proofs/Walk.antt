@@ -1,0 +1,133 @@
+-- The walk over the offered columns of an accepted file: the counts and the cost of those that are left give what all of them give.
+use mathlib.Core.Path.{_≡_, refl, sym, _∙_}
+use mathlib.Core.Bool.{true}
+use mathlib.Core.List.{List}
+use Prim.Native.Nat.{ℕ, zero, suc, _+_, _*_, _-_, _≤_, _<_}
+use native.Mathlib.Omega.{arith}
+use lib.ListN.{length, getD, take, drop, replicate, drop-of-length-le}
+use Rattle.endian.proofs.Parts.{drop-step}
+use Rattle.rules.specs.Instance.{Instance, body}
+use Rattle.refusals.specs.Refusals.{fine}
+use Rattle.dutyfile.specs.declared.Entry.{Entry}
+use Rattle.dutyfile.specs.File.{rowsIn, columnsIn, bodiesAt, entryOf, parse, bodies, instance}
+use Rattle.dutyfile.specs.Faults.{rising, rowsFault, fileFault}
+use Rattle.dutyfile.proofs.Facts.{Accepted, file-fine}
+use Rattle.dutyfile.proofs.Columns.{ColumnAt, column-at}
+use Rattle.dutyfile.proofs.Rising.{rising-at, rising-short, rising-wider, bodies-rise}
+use Rattle.verify.specs.Counts.{noneCovered, counted, countedAll, tally}
+use Rattle.verify.proofs.Counting.{length-counted, counted-le}
+
+abbrev pub fileInstance : List ℕ → Instance
+fileInstance s = instance (parse s)
+
+-- an accepted file and a list of its columns
+pub record Offered (s js : List ℕ) : Type 0 where
+  pub file : Accepted s
+  pub rises : rising 0 (columnsIn s) js ≡ true
+
+pub offered : (s js : List ℕ) → fileFault s ≡ fine → rising 0 (columnsIn s) js ≡ true → Offered s js
+offered s js f r = record { file = file-fine s f; rises = r }
+
+module _ (s js : List ℕ) (o : Offered s js) where
+  -- each body rises within 64 rows
+  pub body-rises : (j : ℕ) → rising 0 64 (body (fileInstance s) j) ≡ true
+  unfolding instance rowsFault
+  body-rises j =
+      rising-wider 0 (rowsIn s) 64 _ (bodies-rise (rowsIn s) (bodies (parse s .lengths) (parse s .numbers)) j (o .file .rising)) (o .file .walked .header .counts .rows .most)
+
+  pub few : length js ≤ 256
+  few = omega (arith, rising-short 0 (columnsIn s) js (o .rises) (omega arith), o .file .walked .header .counts .columns .most)
+
+  -- the entry of the column at place k
+  module _ (k : ℕ) (inside : k < length js) where
+    pub number-low : 1 ≤ getD js k 0
+    number-low = rising-at 0 (columnsIn s) js k (o .rises) inside .0
+
+    pub number-high : getD js k 0 ≤ columnsIn s
+    number-high = rising-at 0 (columnsIn s) js k (o .rises) inside .1
+
+    pub entry-room : (getD js k 0 - 1 ≤ 255) × (16 + 8 * (getD js k 0 - 1) ≤ length s)
+    entry-room =
+        let h = o .file .walked .header in
+        omega (arith, number-low, number-high, h .counts .columns .most, h .contents)
+
+    pub column-here : (e : Entry) → e ≡ entryOf (drop (bodiesAt (getD js k 0 - 1)) s) → ColumnAt s (getD js k 0 - 1) e
+    column-here e is = rw is (column-at s (o .file .walked) (getD js k 0 - 1) (omega (arith, number-low, number-high)))
+
+    -- its body is the part of the file from its start for its length
+    pub part-here : (e : Entry) → e ≡ entryOf (drop (bodiesAt (getD js k 0 - 1)) s) →
+        take (e .start + e .size - e .start) (drop (e .start) s) ≡ body (fileInstance s) (getD js k 0 - 1)
+    unfolding instance
+    part-here e is =
+        let z : e .start + e .size - e .start ≡ e .size = omega arith in
+        rw z (sym (column-here e is .body))
+
+-- at place k, with the rows of the columns before it counted
+pub record Covering (s js out : List ℕ) (k : ℕ) : Type 0 where
+  pub offer : Offered s js
+  pub sized : length out ≡ 64
+  pub within : k ≤ length js
+  pub room : (i : ℕ) → getD out i 0 ≤ k
+  pub left : countedAll (fileInstance s) (drop k js) out ≡ countedAll (fileInstance s) js noneCovered
+
+pub none-at : (n i : ℕ) → getD (replicate n 0) i 0 ≡ zero
+none-at zero i = refl
+none-at (suc n) zero = refl
+none-at (suc n) (suc i) = none-at n i
+
+module _ (s js : List ℕ) where
+  pub covering-start : Offered s js → Covering s js noneCovered 0
+  covering-start o = record { offer = o; sized = refl; within = omega arith; room = λ i. omega (arith, none-at 64 i); left = refl }
+
+  module _ (out : List ℕ) (k : ℕ) (w : Covering s js out k) where
+    module _ (inside : k < length js) (e : Entry) (is : e ≡ entryOf (drop (bodiesAt (getD js k 0 - 1)) s)) where
+      pub covering-ready : ((length out ≡ 64) × (rising 0 64 (take (e .start + e .size - e .start) (drop (e .start) s)) ≡ true))
+          × ((i : ℕ) → getD out i 0 + length (take (e .start + e .size - e .start) (drop (e .start) s)) < 4294967296)
+      covering-ready =
+          let r = body-rises s js (w .offer) (getD js k 0 - 1) in
+          rw (part-here s js (w .offer) k inside e is)
+          ((w .sized, r), λ i. omega (arith, w .room i, few s js (w .offer), rising-short 0 64 _ r (omega arith)))
+
+      pub covering-next : (next : List ℕ) → next ≡ counted (take (e .start + e .size - e .start) (drop (e .start) s)) out → Covering s js next (k + 1)
+      unfolding countedAll
+      covering-next next q =
+          let b : List ℕ = body (fileInstance s) (getD js k 0 - 1) in
+          let n : next ≡ counted b out = rw (part-here s js (w .offer) k inside e is) at q in
+          record {
+            offer = w .offer;
+            sized = rw n (length-counted b out ∙ w .sized);
+            within = omega arith;
+            room = λ i. rw n (omega (arith, counted-le b out i (body-rises s js (w .offer) (getD js k 0 - 1)) (w .sized), w .room i));
+            left = rw n (rw (drop-step js k inside) at (w .left));
+          }
+
+    pub covering-end : length js ≤ k → out ≡ countedAll (fileInstance s) js noneCovered
+    unfolding countedAll
+    covering-end h = rw (drop-of-length-le js h) at (w .left)
+
+-- at place k, with the costs of the columns before it summed
+pub record Costing (s js : List ℕ) (cost k : ℕ) : Type 0 where
+  pub offer : Offered s js
+  pub within : k ≤ length js
+  pub small : cost ≤ 1000000 * k
+  pub left : cost + tally (λ j. getD (parse s .costs) j 0) (drop k js) ≡ tally (λ j. getD (parse s .costs) j 0) js
+
+module _ (s js : List ℕ) where
+  pub costing-start : Offered s js → Costing s js 0 0
+  costing-start o = record { offer = o; within = omega arith; small = omega arith; left = omega arith }
+
+  module _ (cost k : ℕ) (w : Costing s js cost k) where
+    pub costing-next : (inside : k < length js) (e : Entry) → e ≡ entryOf (drop (bodiesAt (getD js k 0 - 1)) s) → Costing s js (cost + e .cost) (k + 1)
+    unfolding tally
+    costing-next inside e is =
+        let c = column-here s js (w .offer) k inside e is in
+        record {
+          offer = w .offer;
+          within = omega arith;
+          small = omega (arith, w .small, c .cheap .most);
+          left = omega (arith, c .cost, rw (drop-step js k inside) at (w .left));
+        }
+
+    pub costing-end : length js ≤ k → cost ≡ tally (λ j. getD (parse s .costs) j 0) js
+    unfolding tally
+    costing-end h = omega (arith, rw (drop-of-length-le js h) at (w .left))
