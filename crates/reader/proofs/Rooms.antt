@@ -19,6 +19,13 @@ pub refused-is : (r : ReadAnswer) (w : Refusal) → r ≡ Refused w → readOutc
 unfolding readOutcome
 refused-is r w e = rw e
 
+-- what lists of c, l and r places must hold to be filled
+pub record Roomy (s : List ℕ) (c l r : ℕ) : Type 0 where
+  pub header : headerFault s ≡ fine
+  pub costs : columnsIn s ≤ c
+  pub lengths : columnsIn s ≤ l
+  pub rows : length (parse s .numbers) ≤ r
+
 module _ (s : List ℕ) (c l r : ℕ) where
   pub reading-refused : (k : ℕ) → refused k ≡ unless (fileFault s) (shape s) → refused k ≡ reading s c l r
   unfolding reading
@@ -37,14 +44,7 @@ module _ (s : List ℕ) (c l r : ℕ) where
       unfolding reading
       reading-done = rw is (unless-fine (shape s) (goes-on _ (accepts _ _ _ (sym e) .0) ∙ rw is at h))
 
-      -- what the lists must hold to be filled
-      pub record Roomy : Type 0 where
-        pub header : headerFault s ≡ fine
-        pub costs : columnsIn s ≤ c
-        pub lengths : columnsIn s ≤ l
-        pub rows : length (parse s .numbers) ≤ r
-
-      pub roomy : Roomy
+      pub roomy : Roomy s c l r
       unfolding roomsFault shape fileFault
       roomy =
           let f = accepts _ _ _ (sym e) .0 in

@@ -140,33 +140,21 @@ pub fn examine(file: &[u8]) -> ReadAnswer
     }
 }
 
-// The costs of all columns, at the front of a list.
-fn fill_costs(file: &[u8], costs: &mut [u32])
+// The costs and the body lengths of all columns, at the front of the lists.
+fn fill_columns(file: &[u8], costs: &mut [u32], lengths: &mut [u16])
     requires { ⌜ headerFault (now file) ≡ fine ⌝ }
     requires { ⌜ columnsIn (now file) ≤ length (now costs) ⌝ }
-    ensures { λ _. ⌜ now (costs .exit) ≡ front (parse (now (file .entry)) .costs) (now (costs .entry)) ⌝ }
-{
-    let columns = column_count(file);
-    let mut j = 0;
-    while j < columns {
-        let e = dutyfile::entry_at(file, j);
-        costs[j] = e.cost;
-        j += 1;
-    }
-}
-
-// Their body lengths.
-fn fill_lengths(file: &[u8], lengths: &mut [u16])
-    requires { ⌜ headerFault (now file) ≡ fine ⌝ }
     requires { ⌜ columnsIn (now file) ≤ length (now lengths) ⌝ }
+    ensures { λ _. ⌜ now (costs .exit) ≡ front (parse (now (file .entry)) .costs) (now (costs .entry)) ⌝ }
     ensures { λ _. ⌜ now (lengths .exit) ≡ front (parse (now (file .entry)) .lengths) (now (lengths .entry)) ⌝ }
 {
     let columns = column_count(file);
-    let mut j = 0;
-    while j < columns {
-        let e = dutyfile::entry_at(file, j);
-        lengths[j] = e.size;
-        j += 1;
+    let mut k = 0;
+    while k < columns {
+        let e = dutyfile::entry_at(file, k);
+        costs[k] = e.cost;
+        lengths[k] = e.size;
+        k += 1;
     }
 }
 
@@ -212,8 +200,7 @@ pub fn read(file: &[u8], costs: &mut [u32], lengths: &mut [u16], rows: &mut [u8]
             match room {
                 Check::Failed(why) => ReadAnswer::Refused(why),
                 Check::Passed => {
-                    fill_costs(file, costs);
-                    fill_lengths(file, lengths);
+                    fill_columns(file, costs, lengths);
                     fill_rows(file, rows);
                     found
                 }

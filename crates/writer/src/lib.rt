@@ -74,11 +74,11 @@ fn put_contents(out: &mut [u8], costs: &[u32], lengths: &[u16])
     ensures { λ _. ⌜ now (out .exit) ≡ sets (now (out .entry)) 8 (contents (bodiesAt (length (now (costs .entry)))) (now (costs .entry)) (now (lengths .entry))) ⌝ }
 {
     let mut start = 8 + 8 * costs.len();
-    let mut j = 0;
-    while j < costs.len() {
-        put_entry(out, j, costs[j], start as u16, lengths[j]);
-        start += lengths[j] as usize;
-        j += 1;
+    let mut k = 0;
+    while k < costs.len() {
+        put_entry(out, k, costs[k], start as u16, lengths[k]);
+        start += lengths[k] as usize;
+        k += 1;
     }
 }
 

@@ -1,5 +1,6 @@
 -- A file is examined, then the lists' room; only where both pass are the lists filled.
 use mathlib.Core.Path.{_≡_, refl, sym, _∙_}
+use lib.ListN.{length}
 use Rattle.refusals.specs.Refusals.{accepted, unless, filled}
 use Rattle.refusals.proofs.Laws.{failed, passed, keeps}
 use Rattle.dutyfile.specs.File.{shape}
@@ -24,7 +25,8 @@ check-rooms-requires c κs = search needs
 
 -- the file is accepted
 found : (c : tie.After-check-rooms) →
-    accepted (c .before .before .found .given .0 .0) ≡ unless (fileFault (c .before .before .before .before .before .before .before .before .before .args .file .now)) (shape (c .before .before .before .before .before .before .before .before .before .args .file .now))
+    let s = c .before .before .before .before .before .before .before .before .before .args .file .now in
+    accepted (c .before .before .found .given .0 .0) ≡ unless (fileFault s) (shape s)
 unfolding readOutcome
 found c = rw (c .before .before .found .given .1) at (c .before .before .before .before .examine .ensures)
 
@@ -35,20 +37,21 @@ enum-told-2 : tie.Need-enum-told-2
 enum-told-2 c = search needs
 
 -- and the lists have room
-space : (c : tie.After-enum-told2) → Roomy (c .before .before .before .before .before .before .before .before .before .before .before .args .file .now) _ _ _ _ (found (c .before .before)) (passed (c .before .before .check-rooms .ensures) (c .enum-told2 .given .1))
-space c = roomy _ _ _ _ _ (found (c .before .before)) (passed (c .before .before .check-rooms .ensures) (c .enum-told2 .given .1))
+space : (c : tie.After-enum-told2) →
+    let a = c .before .before .before .before .before .before .before .before .before .before .before .args in
+    Roomy (a .file .now) (length (a .costs .now)) (length (a .lengths .now)) (length (a .rows .now))
+space c =
+    let k = c .before .before in
+    roomy _ _ _ _ _ (found k) (passed (k .check-rooms .ensures) (c .enum-told2 .given .1))
 
-fill-costs-requires : tie.Need-fill-costs-requires
-fill-costs-requires c κs = (space (c .before) .header, space (c .before) .costs)
-
-fill-lengths-requires : tie.Need-fill-lengths-requires
-fill-lengths-requires c κs =
-    let r = space (c .before .before .before .before .before) in
-    (r .header, r .lengths)
+fill-columns-requires : tie.Need-fill-columns-requires
+fill-columns-requires c κs =
+    let r = space (c .before .before) in
+    (r .header, (r .costs, r .lengths))
 
 fill-rows-requires : tie.Need-fill-rows-requires
 fill-rows-requires c κs =
-    let r = space (c .before .before .before .before .before .before .before .before .before) in
+    let r = space (c .before .before .before .before .before .before .before .before) in
     (r .header, r .rows)
 
 returns : tie.Need-returns
@@ -75,9 +78,11 @@ same-length-3 c = search needs
 returns-3 : tie.Need-returns-3
 unfolding readOutcome filled
 returns-3 c =
-    let k = c .before .before .before .before .before .before .before .before .before .before .before .before .before .before in
-    let p = passed (k .check-rooms .ensures) (c .before .before .before .before .before .before .before .before .before .before .before .before .enum-told2 .given .1) in
-    (reading-done _ _ _ _ _ (found k) p, (c .before .before .before .before .before .before .before .before .before .before .fill-costs .ensures, (c .before .before .before .before .before .before .fill-lengths .ensures, c .before .before .fill-rows .ensures)))
+    let f = c .before .before .before .before .before .before .before .before in
+    let p = f .before .before .before in
+    let k = p .before .before in
+    let e = f .fill-columns .ensures in
+    (reading-done _ _ _ _ _ (found k) (passed (k .check-rooms .ensures) (p .enum-told2 .given .1)), (e .0, (e .1, c .before .before .fill-rows .ensures)))
 
 pub read-spec : {M : Type 1} → statement M
 read-spec =
@@ -89,8 +94,7 @@ read-spec =
     check-rooms-requires
     enum-known-room
     enum-told-2
-    fill-costs-requires
-    fill-lengths-requires
+    fill-columns-requires
     fill-rows-requires
     returns
     returns-2

@@ -7,10 +7,10 @@ use Rattle.writer.proofs.put_contents.Statement.{statement}
 use Rattle.writer.proofs.put_contents.Tie as tie
 
 abbrev Inv-loop : tie.InvT-loop
-Inv-loop out₀ costs lengths start₀ j₀ out start j = Putting out₀ costs lengths out start j
+Inv-loop out₀ costs lengths start₀ k₀ out start k = Putting out₀ costs lengths out start k
 
 abbrev μ-loop : tie.MeasureT-loop
-μ-loop out₀ costs lengths start₀ j₀ out start j = length costs - j
+μ-loop out₀ costs lengths start₀ k₀ out start k = length costs - k
 
 mul-start : tie.Need-mul-start Inv-loop μ-loop
 mul-start c = omega arith
@@ -48,15 +48,15 @@ shared-slice-read-start : tie.Need-shared-slice-read-start Inv-loop μ-loop
 shared-slice-read-start c = omega arith
 
 cast-start : tie.Need-cast-start Inv-loop μ-loop
-cast-start c = omega (arith, c .shared-slice-known5 .given (c .before .before .before .before .before .before .before .before .loop .j))
+cast-start c = omega (arith, c .shared-slice-known5 .given (c .before .before .before .before .before .before .before .before .loop .k))
 
 add-start-2 : tie.Need-add-start-2 Inv-loop μ-loop
 add-start-2 c =
     let l = c .before .before .before .before .before .before .before in
     omega (arith, putting-ends _ _ _ _ _ _ (l .before .loop .inv) (l .loop-test .taken))
 
-add-j : tie.Need-add-j Inv-loop μ-loop
-add-j c = omega arith
+add-k : tie.Need-add-k Inv-loop μ-loop
+add-k c = omega arith
 
 loop-less : tie.Need-loop-less Inv-loop μ-loop
 loop-less c = omega arith
@@ -91,7 +91,7 @@ put-contents-spec =
     shared-slice-read-start
     cast-start
     add-start-2
-    add-j
+    add-k
     loop-less
     loop-again
     same-length
