@@ -45,7 +45,7 @@ pub fn entry_at(file: &[u8], j: usize) -> Entry
     }
 }
 
-// 2: the numbers of rows and columns.
+// Test 2: the numbers of rows and columns.
 pub fn check_counts(rows: usize, columns: usize) -> Check
     ensures { λ r. ⌜ faultOf r ≡ countsFault rows columns ⌝ }
 {
@@ -64,7 +64,7 @@ pub fn check_counts(rows: usize, columns: usize) -> Check
     Check::Passed
 }
 
-// 4, 5, 6: a column of `size` rows, after columns with `total` rows in all.
+// Tests 4, 5 and 6: a column of `size` rows, after columns with `total` rows in all.
 pub fn check_column(rows: usize, total: usize, cost: u32, size: u16) -> Check
     requires { ⌜ total ≤ 4096 ⌝ }
     ensures { λ r. ⌜ faultOf r ≡ columnFault rows total cost size ⌝ }
@@ -88,7 +88,7 @@ pub fn check_column(rows: usize, total: usize, cost: u32, size: u16) -> Check
     Check::Passed
 }
 
-// 4, 5, 6, 7: an entry of a file with so many columns, after bodies of `total` rows.
+// Tests 4, 5, 6 and 7: an entry of a file with so many columns, after bodies of `total` rows.
 pub fn check_entry(rows: usize, columns: usize, total: usize, e: Entry) -> Check
     requires { ⌜ (columns ≤ 256) × (total ≤ 4096) ⌝ }
     ensures { λ r. ⌜ faultOf r ≡ entryFault rows columns total e ⌝ }
@@ -105,7 +105,7 @@ pub fn check_entry(rows: usize, columns: usize, total: usize, e: Entry) -> Check
     }
 }
 
-// 9: whether a body's row numbers rise within 1 to `rows`.
+// Test 9: whether a body's row numbers rise within 1 to `rows`.
 pub fn is_rising(body: &[u8], rows: usize) -> bool
     ensures { λ r. ⌜ r ≡ rising 0 rows (now (body .entry)) ⌝ }
 {

@@ -4,9 +4,8 @@ use dutyfile::Shape;
 use refusals::Check;
 use refusals::Refusal;
 ghost use mathlib.Core.Path.{_≡_};
-ghost use mathlib.Core.List.{map};
 ghost use Prim.Native.Nat.{_+_, _*_, _≤_};
-ghost use lib.ListN.{length, drop};
+ghost use lib.ListN.{length};
 ghost use Rattle.refusals.specs.Refusals.{fine, faultOf, unless, front, filled};
 ghost use Rattle.dutyfile.specs.File.{rowsIn, columnsIn, parse, shape, sum};
 ghost use Rattle.dutyfile.specs.Faults.{headerFault, contentsFault, endFault, rowsFault, fileFault, roomsFault, reading};
@@ -19,7 +18,7 @@ pub enum ReadAnswer {
     Refused(Refusal),
 }
 
-// 01's m.
+// The number of rows, 01's m.
 fn row_count(file: &[u8]) -> usize
     requires { ⌜ 8 ≤ length (now file) ⌝ }
     ensures { λ r. ⌜ r ≡ rowsIn (now (file .entry)) ⌝ }
@@ -27,7 +26,7 @@ fn row_count(file: &[u8]) -> usize
     endian::get16(file, 4) as usize
 }
 
-// 01's n.
+// The number of columns, 01's n.
 fn column_count(file: &[u8]) -> usize
     requires { ⌜ 8 ≤ length (now file) ⌝ }
     ensures { λ r. ⌜ r ≡ columnsIn (now (file .entry)) ⌝ }
@@ -35,7 +34,7 @@ fn column_count(file: &[u8]) -> usize
     endian::get16(file, 6) as usize
 }
 
-// 1, 2, 3.
+// Tests 1, 2 and 3: the first 8 bytes, and a file that ends inside its contents.
 fn check_header(file: &[u8]) -> Check
     ensures { λ r. ⌜ faultOf r ≡ headerFault (now (file .entry)) ⌝ }
 {
@@ -58,7 +57,7 @@ fn check_header(file: &[u8]) -> Check
     }
 }
 
-// 4, 5, 6, 7: the contents are walked forward, one entry after another.
+// Tests 4, 5, 6 and 7: the contents are walked forward, one entry after another.
 fn check_contents(file: &[u8]) -> Contents
     requires { ⌜ headerFault (now file) ≡ fine ⌝ }
     ensures { λ r. ⌜ contentsOutcome r ≡ unless (contentsFault (now (file .entry))) (sum (parse (now (file .entry)) .lengths)) ⌝ }
@@ -79,7 +78,7 @@ fn check_contents(file: &[u8]) -> Contents
     Contents::Rows(total)
 }
 
-// 9: each body is the part of the file from its start for its length.
+// Test 9: each body is the part of the file from its start for its length.
 fn check_bodies(file: &[u8]) -> Check
     requires { ⌜ headerFault (now file) ≡ fine ⌝ }
     requires { ⌜ contentsFault (now file) ≡ fine ⌝ }
@@ -101,7 +100,7 @@ fn check_bodies(file: &[u8]) -> Check
     Check::Passed
 }
 
-// 8, then 9, for a file whose contents have `total` row numbers.
+// Test 8, then 9, for a file whose contents have `total` row numbers.
 fn examine_bodies(file: &[u8], total: usize) -> ReadAnswer
     requires { ⌜ headerFault (now file) ≡ fine ⌝ }
     requires { ⌜ contentsFault (now file) ≡ fine ⌝ }
@@ -123,7 +122,7 @@ fn examine_bodies(file: &[u8], total: usize) -> ReadAnswer
     }
 }
 
-// A file's tests, 1 to 9.
+// Tests 1 to 9: what an accepted file holds, or the first refusal. Nothing is lent.
 pub fn examine(file: &[u8]) -> ReadAnswer
     ensures { λ r. ⌜ readOutcome r ≡ unless (fileFault (now (file .entry))) (shape (now (file .entry))) ⌝ }
 {
@@ -169,7 +168,7 @@ fn fill_rows(file: &[u8], rows: &mut [u8])
     endian::put(rows, 0, &file[start..end]);
 }
 
-// 10, for lists of so many places.
+// Test 10, for lists of so many places.
 fn check_rooms(found: Shape, costs: usize, lengths: usize, rows: usize) -> Check
     ensures { λ r. ⌜ faultOf r ≡ roomsFault found costs lengths rows ⌝ }
 {

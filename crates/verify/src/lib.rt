@@ -3,13 +3,13 @@ use reader::ReadAnswer;
 use refusals::Refusal;
 ghost use mathlib.Core.Path.{_≡_};
 ghost use mathlib.Core.Bool.{true};
-ghost use Prim.Native.Nat.{ℕ, _+_, _*_, _≤_, _<_};
+ghost use Prim.Native.Nat.{ℕ, _+_, _≤_, _<_};
 ghost use lib.ListN.{length, getD};
 ghost use Rattle.refusals.specs.Refusals.{fine, accepted};
-ghost use Rattle.dutyfile.specs.File.{rowsIn, columnsIn, parse, instance};
+ghost use Rattle.dutyfile.specs.File.{columnsIn, parse, instance};
 ghost use Rattle.dutyfile.specs.Faults.{rising, fileFault};
 ghost use Rattle.verify.specs.Counts.{noneCovered, counted, countedAll, tally};
-ghost use Rattle.verify.specs.Verdict.{named, lowest, verdict, checking, checkOutcome};
+ghost use Rattle.verify.specs.Verdict.{lowest, checking, checkOutcome};
 
 // What checking an offered plan comes to.
 pub enum CheckAnswer {
@@ -20,7 +20,7 @@ pub enum CheckAnswer {
     Refused(Refusal),
 }
 
-// 12: whether the offered columns rise within 1 to `most`.
+// Test 12: whether the offered columns rise within 1 to `most`.
 fn is_rising(columns: &[u16], most: usize) -> bool
     ensures { λ r. ⌜ r ≡ rising 0 most (now (columns .entry)) ⌝ }
 {

@@ -19,7 +19,7 @@ pub enum WriteAnswer {
     Refused(Refusal),
 }
 
-// 4, 5, 6 column by column.
+// Tests 4, 5 and 6, column by column.
 fn check_columns(rows: usize, costs: &[u32], lengths: &[u16]) -> Contents
     requires { ⌜ length (now lengths) ≡ length (now costs) ⌝ }
     ensures { λ r. ⌜ contentsOutcome r ≡ unless (columnsFault rows 0 (now (costs .entry)) (now (lengths .entry))) (sum (now (lengths .entry))) ⌝ }
@@ -37,7 +37,7 @@ fn check_columns(rows: usize, costs: &[u32], lengths: &[u16]) -> Contents
     Contents::Rows(total)
 }
 
-// 9: each body is the next part of the row numbers.
+// Test 9: each body is the next part of the row numbers.
 fn check_bodies(rows: usize, lengths: &[u16], numbers: &[u8]) -> Check
     requires { ⌜ length (now numbers) ≡ sum (now lengths) ⌝ }
     ensures { λ r. ⌜ faultOf r ≡ bodiesFault rows (bodies (now (lengths .entry)) (now (numbers .entry))) ⌝ }
@@ -92,7 +92,7 @@ fn put_header(out: &mut [u8], rows: u16, columns: u16)
     endian::put16(out, 6, columns);
 }
 
-// 13 for the row numbers against t, then 9; the length of the file if all is well.
+// Test 13 for the row numbers against t, then 9: the file's length, or the first refusal.
 fn check_numbers(
     rows: usize,
     columns: usize,
@@ -114,7 +114,7 @@ fn check_numbers(
     }
 }
 
-// The lists' tests: 2, 13, 4 to 6, 13, 9.
+// All tests of the lists, 2, 13, 4 to 6, 13 and 9: the file's length, or the first refusal.
 fn check_lists(rows: u16, costs: &[u32], lengths: &[u16], numbers: &[u8]) -> WriteAnswer
     ensures { λ r. ⌜ writeOutcome r ≡ unless (listsFault (lists rows (now (costs .entry)) (now (lengths .entry)) (now (numbers .entry)))) (length (render (lists rows (now (costs .entry)) (now (lengths .entry)) (now (numbers .entry))))) ⌝ }
 {
