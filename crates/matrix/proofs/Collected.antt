@@ -9,6 +9,7 @@ use lib.ListN.{length, getD, set}
 use lib.Seq.{sets}
 use borrow.Author.Tests.{eq-eqb, ne-eqb}
 use Rattle.rules.specs.Lists.{keep, from}
+use Rattle.rules.proofs.Loops.{from-next}
 use Rattle.matrix.specs.Build.{place, markedIn, marksOf}
 
 -- the columns from j on that are marked in a row
@@ -28,12 +29,6 @@ pub collecting-start : (cover : List ℕ) (columns row : ℕ) (entries : List �
     (columns ≤ 256) × (row < 64) × (at + length (marksOf cover columns row) ≤ 4096) → Collecting cover columns row entries at entries at 0
 collecting-start cover columns row entries at h =
     record { few = h .0; row-is = h .1; room = h .2; within = omega arith; left = rw sub-zero; count = rw sub-zero }
-
-from-next : (n j : ℕ) → j < n → from (n - j) j ≡ j ∷ from (n - (j + 1)) (j + 1)
-unfolding from
-from-next n j h =
-    let e : n - j ≡ suc (n - (j + 1)) = omega arith in
-    rw (e, add-one)
 
 module _ (cover : List ℕ) (columns row : ℕ) (entries₀ : List ℕ) (at : ℕ) (entries : List ℕ) (end j : ℕ)
     (w : Collecting cover columns row entries₀ at entries end j) (inside : j < columns) where

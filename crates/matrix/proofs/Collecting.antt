@@ -147,7 +147,7 @@ module _ (cover : List ℕ) (columns rows : ℕ) where
         }
 
     pub gathering-end : rows ≤ i → Rows cover columns rows (record { heads = heads; entries = entries })
-    gathering-end h = record { sized = w .wide; row = λ k l. gathered h k l }
+    gathering-end h = record { row = gathered h }
 
 -- the rows of the table that the columns make are the rows of the matrix
 module _ (p : Instance) (rows columns : ℕ) (n : Counts p rows columns) (cover : List ℕ) (s : Small p) (c : Covers p columns cover) where
@@ -166,5 +166,4 @@ module _ (p : Instance) (rows columns : ℕ) (n : Counts p rows columns) (cover 
     small = s;
     spans = λ j l. let q = k .column j l in (q .rises, sym (part-length starts numbers j (body p j) q));
     row = λ i l. let m : i < rows = omega (arith, n .rows-is) in rw (row-is i m) at (r .row i m);
-    sized = r .sized;
   }

@@ -52,7 +52,6 @@ pub record SomeColumns (rows columns : ℕ) (starts numbers : List ℕ) : Type 0
 
 -- the marked columns of each row are kept so
 pub record Rows (cover : List ℕ) (columns rows : ℕ) (kept : RowLists) : Type 0 where
-  pub sized : length (kept .entries) ≡ 4096
   pub row : (i : ℕ) → i < rows → Part (kept .heads) (kept .entries) i (marksOf cover columns i)
 
 -- a list with its first n places 1

@@ -37,5 +37,4 @@ pub record ByColumn (p : Instance) (starts numbers : List ℕ) : Type 0 where
 pub record ByRow (p : Instance) (starts heads entries : List ℕ) : Type 0 where
   pub small : Small p
   pub spans : (j : ℕ) → j < width p → (getD starts j 0 ≤ getD starts (j + 1) 0) × (getD starts (j + 1) 0 - getD starts j 0 ≡ span p j)
-  pub sized : length entries ≡ 4096
   pub row : (i : ℕ) → i < p .rows → Part heads entries i (rowColumns p i)
