@@ -9,6 +9,6 @@ mod Covered
 mod Collected
 mod Collecting
 -- and of the root.
-mod Root
+pub mod Root
 -- The instance of an accepted file, and its columns as they are read.
 pub mod Accepted

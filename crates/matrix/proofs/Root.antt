@@ -1,10 +1,10 @@
--- The root's tables: ones at the front of zeros are the marks of the first rows or columns.
-use mathlib.Core.Path.{_≡_, refl, ap, _∙_}
+-- The root's tables: a list at the front of zeros is a table, and ones there are the marks of the first rows or columns.
+use mathlib.Core.Path.{_≡_, refl, ap, sym, _∙_}
 use mathlib.Core.Bool.{Bool, true, false}
-use mathlib.Core.List.{List}
+use mathlib.Core.List.{List, _++_}
 use Prim.Native.Nat.{ℕ, _+_, _-_, _≤_, _<_}
 use native.Mathlib.Omega.{arith}
-use lib.ListN.{length, getD, drop, replicate, length-replicate, getD-replicate, length-append, length-drop, List·getD-append, set, length-set}
+use lib.ListN.{length, getD, drop, replicate, length-replicate, getD-replicate, length-append, length-drop, List·getD-append, List·getD-eq-default, set, length-set}
 use borrow.Author.Fill.{fill-none, fill-more}
 use lib.Seq.{getD-append-add, getD-drop}
 use lib.Dec.{ltb}
@@ -15,24 +15,39 @@ use Rattle.rules.specs.Instance.{Instance}
 use Rattle.rules.specs.Node.{root}
 use Rattle.matrix.specs.Build.{Counts, ones}
 
-pub ones-table : (n m : ℕ) → n ≤ m → ones n (replicate m 0) ≡ table m (λ j. on (ltb j n) 1)
-ones-table n m h = table-ext m (λ j. on (ltb j n) 1) (ones n (replicate m 0)) size (λ k l. go k l (ltb k n) refl)
+-- a list at the front of zeros
+pub zeros-after : (new : List ℕ) (m : ℕ) → length new ≤ m → new ++ drop (length new) (replicate m 0) ≡ table m (λ j. getD new j 0)
+zeros-after new m h = table-ext m (λ j. getD new j 0) (new ++ drop (length new) (replicate m 0)) size (λ k l. go k l (ltb k (length new)) refl)
   where
-    size : length (ones n (replicate m 0)) ≡ m
+    size : length (new ++ drop (length new) (replicate m 0)) ≡ m
     size = simp (length-append, length-drop, length-replicate) (omega arith)
 
-    go : (k : ℕ) → k < m → (b : Bool) → ltb k n ≡ b → getD (ones n (replicate m 0)) k 0 ≡ on b 1
-    go k l true e =
-        let i : k < n = ltb-true k n e in
-        List·getD-append (replicate n 1) (drop n (replicate m 0)) 0 k (rw (length-replicate {A = ℕ} n 1) i) ∙ getD-replicate n k 1 0 i
+    go : (k : ℕ) → k < m → (b : Bool) → ltb k (length new) ≡ b → getD (new ++ drop (length new) (replicate m 0)) k 0 ≡ getD new k 0
+    go k l true e = List·getD-append new (drop (length new) (replicate m 0)) 0 k (ltb-true k (length new) e)
     go k l false e =
-        let i : n ≤ k = ltb-false k n e in
-        let q : k ≡ length {A = ℕ} (replicate n 1) + (k - n) = rw (length-replicate {A = ℕ} n 1) (omega arith) in
-        let s : n + (k - n) ≡ k = omega arith in
-        ap (λ (z : ℕ). getD (ones n (replicate m 0)) z 0) q
-        ∙ getD-append-add (replicate n 1) (drop n (replicate m 0)) (k - n) 0
-        ∙ getD-drop n (replicate m 0) (k - n) 0
+        let i : length new ≤ k = ltb-false k (length new) e in
+        let q : k ≡ length new + (k - length new) = omega arith in
+        let s : length new + (k - length new) ≡ k = omega arith in
+        ap (λ (z : ℕ). getD (new ++ drop (length new) (replicate m 0)) z 0) q
+        ∙ getD-append-add new (drop (length new) (replicate m 0)) (k - length new) 0
+        ∙ getD-drop (length new) (replicate m 0) (k - length new) 0
         ∙ rw s (getD-replicate m k 0 0 l)
+        ∙ sym (List·getD-eq-default new 0 i)
+
+ones-at : (n k : ℕ) → getD (replicate n 1) k 0 ≡ on (ltb k n) 1
+ones-at n k = go (ltb k n) refl
+  where
+    go : (b : Bool) → ltb k n ≡ b → getD (replicate n 1) k 0 ≡ on b 1
+    go true e = getD-replicate n k 1 0 (ltb-true k n e)
+    go false e =
+        let i : length {A = ℕ} (replicate n 1) ≤ k = rw (length-replicate {A = ℕ} n 1) (ltb-false k n e) in
+        List·getD-eq-default (replicate n 1) 0 i
+
+ones-table : (n m : ℕ) → n ≤ m → ones n (replicate m 0) ≡ table m (λ j. on (ltb j n) 1)
+ones-table n m h =
+    let z : ones n (replicate m 0) ≡ table m (λ j. getD (replicate n 1) j 0) =
+    rw (length-replicate {A = ℕ} n 1) at (zeros-after (replicate n 1) m (rw (length-replicate {A = ℕ} n 1) h)) in
+    z ∙ simp (ones-at n)
 
 -- the marks that are set one after another
 pub record Marked (marks₀ : List ℕ) (n : ℕ) (marks : List ℕ) (i : ℕ) : Type 0 where
