@@ -41,7 +41,7 @@ length-bodies [] rs = refl
 length-bodies (l ∷ ls) rs = ap suc (length-bodies ls (drop l rs))
 
 -- body j
-body-at : (ls rs : List ℕ) (j : ℕ) → j < length ls → getD (bodies ls rs) j [] ≡ take (getD ls j 0) (drop (sum (take j ls)) rs)
+pub body-at : (ls rs : List ℕ) (j : ℕ) → j < length ls → getD (bodies ls rs) j [] ≡ take (getD ls j 0) (drop (sum (take j ls)) rs)
 unfolding bodies sum
 body-at [] rs j h = absurd (omega arith)
 body-at (l ∷ ls) rs zero h = refl

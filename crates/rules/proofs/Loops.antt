@@ -2,8 +2,9 @@
 use mathlib.Core.Path.{_≡_, refl, ap, _∙_}
 use mathlib.Core.Bool.{Bool, true, false, cond}
 use mathlib.Core.List.{List, [], _∷_, _++_}
-use Prim.Native.Nat.{ℕ, zero, suc, _+_, _<_, min}
+use Prim.Native.Nat.{ℕ, zero, suc, _+_, _-_, _<_, min}
 use native.Mathlib.Nat.{add-zero, zero-add}
+use native.Mathlib.Numerals.{add-one}
 use native.Mathlib.Omega.{arith}
 use lib.ListN.{length, getD, length-map}
 use lib.Seq.{ext-getD}
@@ -22,7 +23,14 @@ from-suc zero k = rw add-zero
 from-suc (suc n) k =
     ap {B = List ℕ} (λ xs. k ∷ xs) (from-suc n (suc k) ∙ ap (λ (m : ℕ). from n (suc k) ++ (m ∷ [])) (omega arith))
 
-keep-append : (t : ℕ → Bool) (xs ys : List ℕ) → keep t (xs ++ ys) ≡ keep t xs ++ keep t ys
+-- the numbers from j on, below n
+pub from-next : (n j : ℕ) → j < n → from (n - j) j ≡ j ∷ from (n - (j + 1)) (j + 1)
+unfolding from
+from-next n j h =
+    let e : n - j ≡ suc (n - (j + 1)) = omega arith in
+    rw (e, add-one)
+
+pub keep-append : (t : ℕ → Bool) (xs ys : List ℕ) → keep t (xs ++ ys) ≡ keep t xs ++ keep t ys
 unfolding keep
 keep-append t [] ys = refl
 keep-append t (x ∷ xs) ys = rw (keep-append t xs ys) (go (t x))

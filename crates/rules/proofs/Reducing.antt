@@ -25,7 +25,7 @@ module _ (p : Instance) where
   abbrev pub pending : Node → ℕ
   pending s = length (candidates p s)
 
-  pending-fits : (s : Node) → pending s < suc (p .rows)
+  pub pending-fits : (s : Node) → pending s < suc (p .rows)
   unfolding candidates openRows
   pending-fits s = omega (arith, keep-short (λ i. ltb 0 (leastOf p s i)) (openRows p s), keep-upto (isOpen s) (p .rows))
 
@@ -186,6 +186,29 @@ module _ (p : Instance) (F : FitsNode p) where
   reduce-step s us =
       reduce-on-same s us (candidates p s) refl (λ t vs. reduceBy (p .rows) p t vs) reduceFrom
       (λ t vs n. reduce-same (p .rows) (suc (p .rows)) t vs (omega (arith, pending-fits p s)) (pending-fits p t))
+
+  -- with no candidate left reducing is done, and one candidate used leads on
+  pub reduce-none : (s : Node) (us : List ℕ) → candidates p s ≡ [] → reduceFrom s us ≡ record { node = s; used = us }
+  unfolding reduceOn
+  reduce-none s us e = reduce-step s us ∙ rw e
+
+  pub record Stepped (s t : Node) (us : List ℕ) (b : ℕ) : Type 0 where
+    pub row-open : Open p s b
+    pub above : 0 < leastOf p s b
+    pub good : Good p s → Good p t
+    pub falls : pending p t < pending p s
+    pub left : reduceFrom s us ≡ reduceFrom t (us ++ (b ∷ []))
+
+  pub reduce-some : (s : Node) (us : List ℕ) (i : ℕ) (is : List ℕ) → candidates p s ≡ i ∷ is
+      → let b : ℕ = pick (rowFirst p s) i is in Stepped s (lower p s b (leastOf p s b)) us b
+  unfolding reduceOn picked next
+  reduce-some s us i is e = record {
+    row-open = picked-cand s i is e .0;
+    above = picked-cand s i is e .1;
+    good = next-good s i is e;
+    falls = next-falls s i is e;
+    left = reduce-step s us ∙ rw e;
+  }
 
   -- no more rows are used than there are
   used-by : (f : ℕ) (s : Node) (us : List ℕ) → length (reduceBy f p s us .used) ≤ length us + pending p s

@@ -5,6 +5,7 @@ use Prim.Native.Nat.{ℕ, zero, suc, _+_, _-_}
 use lib.ListN.{length}
 use lib.Dec.{eqb, ltb}
 use Rattle.rules.specs.declared.Node.{Node}
+use Rattle.rules.specs.declared.Candidate.{Candidate}
 use Rattle.rules.specs.Lists.{keep, table, least, pick, on}
 use Rattle.rules.specs.Instance.{Instance, span, covers}
 use Rattle.rules.specs.Node.{isFree, freeOf, openRows, costAt}
@@ -17,15 +18,7 @@ leastOf p s i = least (costAt s) (freeOf p s i)
 unfoldable pub candidates : Instance → Node → List ℕ
 candidates p s = keep (λ i. ltb 0 (leastOf p s i)) (openRows p s)
 
--- what the five criteria look at: how many free columns, how many of them at the least cost, that cost, the fewest rows that one of
--- these covers, and the row's number
-pub record Candidate : Type 0 where
-  pub free : ℕ
-  pub ties : ℕ
-  pub cost : ℕ
-  pub short : ℕ
-  pub row : ℕ
-
+-- what the five criteria look at
 unfoldable pub candidate : Instance → Node → ℕ → Candidate
 candidate p s i =
     let js : List ℕ = freeOf p s i in

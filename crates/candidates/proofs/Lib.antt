@@ -1,0 +1,5 @@
+mod Keep
+mod Criteria
+mod Tally
+mod Candidate
+mod Best

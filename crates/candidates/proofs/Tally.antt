@@ -1,0 +1,161 @@
+-- A row's statistics: with one more free column they are those of the columns so far with that column joined.
+use mathlib.Core.Path.{_≡_, refl, ap, sym, _∙_}
+use mathlib.Core.Bool.{Bool, true, false, false≢true}
+use mathlib.Core.List.{List, [], _∷_, _++_, append-nil}
+use Prim.Native.Nat.{ℕ, _+_, _≤_, _<_, min}
+use native.Mathlib.Numerals.{add-one}
+use native.Mathlib.Omega.{arith}
+use lib.ListN.{length, getD, take, length-append, length-take}
+use lib.Seq.{take-suc, take-all}
+use lib.Dec.{eqb, ltb}
+use borrow.Author.Tests.{eq-eqb, ne-eqb, lt-ltb, le-ltb, ltb-true, ltb-false, eqb-true, eqb-false}
+use Rattle.rules.specs.declared.Candidate.{Candidate}
+use Rattle.rules.specs.Lists.{keep, member, least, leastFrom}
+use Rattle.rules.proofs.Members.{member-keep, least-le, least-at, keep-short}
+use Rattle.rules.proofs.Loops.{keep-append}
+use Rattle.candidates.specs.Row.{tallyAt, tally, joined, spanIn, tallyIn, Listed}
+use Rattle.candidates.proofs.Keep.{keep-none, least-more}
+
+module _ (f z : ℕ → ℕ) (x i : ℕ) where
+  more-first : joined (tally f z [] i) (f x) (z x) ≡ tally f z (x ∷ []) i
+  unfolding joined tallyAt keep least leastFrom
+  more-first = rw (eq-eqb (f x) (f x) refl)
+
+  module _ (js : List ℕ) (some : 0 < length js) where
+    below : f x < least f js → joined (tally f z js i) (f x) (z x) ≡ tally f z (js ++ (x ∷ [])) i
+    unfolding joined tallyAt keep least leastFrom
+    below h =
+        let e : least f (js ++ (x ∷ [])) ≡ f x = omega (arith, least-more f js x some) in
+        let n : keep (λ j. eqb (f j) (f x)) js ≡ [] =
+        keep-none (λ j. eqb (f j) (f x)) js (λ k m. ne-eqb (f k) (f x) (λ q. omega (arith, least-le f js k m))) in
+        let k : keep (λ j. eqb (f j) (f x)) (js ++ (x ∷ [])) ≡ x ∷ [] =
+        keep-append (λ j. eqb (f j) (f x)) js (x ∷ []) ∙ rw (n, eq-eqb (f x) (f x) refl) in
+        rw (ne-eqb (length js) 0 (λ q. omega arith), lt-ltb (f x) (least f js) h)
+        (sym (ap (tallyAt f z (js ++ (x ∷ [])) i) e ∙ rw (k, length-append js (x ∷ []))))
+
+    -- the columns at cost c, with one more column
+    more-at : (c : ℕ) → eqb (f x) c ≡ true → keep (λ j. eqb (f j) c) (js ++ (x ∷ [])) ≡ keep (λ j. eqb (f j) c) js ++ (x ∷ [])
+    unfolding keep
+    more-at c e = keep-append (λ j. eqb (f j) c) js (x ∷ []) ∙ rw e
+
+    same-at : (c : ℕ) → eqb (f x) c ≡ false → keep (λ j. eqb (f j) c) (js ++ (x ∷ [])) ≡ keep (λ j. eqb (f j) c) js
+    unfolding keep
+    same-at c e = keep-append (λ j. eqb (f j) c) js (x ∷ []) ∙ rw e (append-nil (keep (λ j. eqb (f j) c) js))
+
+    -- some column has the least cost
+    some-least : 0 < length (keep (λ j. eqb (f j) (least f js)) js)
+    unfolding member
+    some-least = go js refl some
+      where
+        has : (xs : List ℕ) (k : ℕ) → member k xs ≡ true → 0 < length xs
+        has [] k m = absurd (false≢true m)
+        has (y ∷ ys) k m = omega arith
+
+        go : (xs : List ℕ) → js ≡ xs → 0 < length xs → 0 < length (keep (λ j. eqb (f j) (least f js)) js)
+        go [] e h = absurd (omega arith)
+        go (y ∷ ys) e h =
+            let r = least-at f y ys in
+            rw e (has (keep (λ j. eqb (f j) (least f (y ∷ ys))) (y ∷ ys)) (r .0)
+            (member-keep (λ j. eqb (f j) (least f (y ∷ ys))) (r .0) (y ∷ ys) ∙ rw (eq-eqb (f (r .0)) (least f (y ∷ ys)) (sym (r .2))) (r .1)))
+
+    level : f x ≡ least f js → joined (tally f z js i) (f x) (z x) ≡ tally f z (js ++ (x ∷ [])) i
+    unfolding joined tallyAt
+    level h =
+        let m : ℕ = least f js in
+        let e : least f (js ++ (x ∷ [])) ≡ m = omega (arith, least-more f js x some) in
+        rw (ne-eqb (length js) 0 (λ q. omega arith), le-ltb (f x) m (omega arith), eq-eqb (f x) m h)
+        (sym (ap (tallyAt f z (js ++ (x ∷ [])) i) e
+        ∙ rw (
+          more-at m (eq-eqb (f x) m h),
+          length-append js (x ∷ []),
+          length-append (keep (λ j. eqb (f j) m) js) (x ∷ []),
+          least-more z (keep (λ j. eqb (f j) m) js) x some-least,
+        )))
+
+    above : least f js < f x → joined (tally f z js i) (f x) (z x) ≡ tally f z (js ++ (x ∷ [])) i
+    unfolding joined tallyAt
+    above h =
+        let m : ℕ = least f js in
+        let n : eqb (f x) m ≡ false = ne-eqb (f x) m (λ q. omega arith) in
+        let e : least f (js ++ (x ∷ [])) ≡ m = omega (arith, least-more f js x some) in
+        rw (ne-eqb (length js) 0 (λ q. omega arith), le-ltb (f x) m (omega arith), n)
+        (sym (ap (tallyAt f z (js ++ (x ∷ [])) i) e ∙ rw (same-at m n, length-append js (x ∷ []))))
+
+  tally-more : (js : List ℕ) → joined (tally f z js i) (f x) (z x) ≡ tally f z (js ++ (x ∷ [])) i
+  tally-more [] = more-first
+  tally-more (y ∷ ys) = go (ltb (f x) (least f (y ∷ ys))) (eqb (f x) (least f (y ∷ ys))) refl refl
+    where
+      go : (a b : Bool) → ltb (f x) (least f (y ∷ ys)) ≡ a → eqb (f x) (least f (y ∷ ys)) ≡ b →
+          joined (tally f z (y ∷ ys) i) (f x) (z x) ≡ tally f z ((y ∷ ys) ++ (x ∷ [])) i
+      go true b p q = below (y ∷ ys) (omega arith) (ltb-true _ _ p)
+      go false true p q = level (y ∷ ys) (omega arith) (eqb-true _ _ q)
+      go false false p q =
+          let n : f x ≡ least f (y ∷ ys) → ⊥ = eqb-false _ _ q in
+          above (y ∷ ys) (omega arith) (omega (arith, ltb-false (f x) (least f (y ∷ ys)) p))
+
+-- the fewer rows of two columns
+pub fewer-left : (x y : ℕ) → x ≤ y → min x y ≡ x
+fewer-left x y h = omega arith
+
+pub fewer-right : (x y : ℕ) → y < x → min x y ≡ y
+fewer-right x y h = omega arith
+
+-- at column k of a row
+pub record Tallying (cost column starts row : List ℕ) (i : ℕ) (found : Candidate) (k : ℕ) : Type 0 where
+  pub listed : Listed starts row
+  pub within : k ≤ length row
+  pub is : found ≡ tallyIn cost column starts (take k row) i
+
+pub tallying-start : (cost column starts row : List ℕ) (i : ℕ) → Listed starts row →
+    Tallying cost column starts row i (record { free = 0; ties = 0; cost = 0; short = 0; row = i }) 0
+unfolding tallyAt keep least
+tallying-start cost column starts row i l = record { listed = l; within = omega arith; is = refl }
+
+module _ (cost column starts row : List ℕ) (i : ℕ) (found : Candidate) (k : ℕ) (w : Tallying cost column starts row i found k) where
+  module _ (inside : k < length row) where
+    pub tallying-few : (found .free < 4096) × (found .ties ≤ found .free)
+    unfolding tallyAt
+    tallying-few =
+        let js : List ℕ = keep (λ j. eqb (getD column j 0) 1) (take k row) in
+        let f : ℕ → ℕ = λ j. getD cost j 0 in
+        let n : length (take k row) ≤ k = simp length-take (omega arith) in (
+          rw (w .is) (omega (arith, keep-short (λ j. eqb (getD column j 0) 1) (take k row), w .listed .few)),
+          rw (w .is) (keep-short (λ j. eqb (f j) (least f js)) js),
+        )
+
+    more : take (k + 1) row ≡ take k row ++ (getD row k 0 ∷ [])
+    more = rw add-one (take-suc row k 0 inside)
+
+    pub tallying-free : getD column (getD row k 0) 0 ≡ 1 → (next : Candidate) →
+        next ≡ joined found (getD cost (getD row k 0) 0) (spanIn starts (getD row k 0)) → Tallying cost column starts row i next (k + 1)
+    unfolding keep
+    tallying-free h next told =
+        let t : ℕ → Bool = λ j. eqb (getD column j 0) 1 in
+        let x : ℕ = getD row k 0 in
+        let js : List ℕ = keep t (take k row) in
+        let e : keep t (take (k + 1) row) ≡ js ++ (x ∷ []) = rw more (keep-append t (take k row) (x ∷ []) ∙ rw (eq-eqb (getD column x 0) 1 h)) in
+        record {
+          listed = w .listed;
+          within = omega arith;
+          is =
+              told ∙ ap (λ (a : Candidate). joined a (getD cost x 0) (spanIn starts x)) (w .is)
+              ∙ tally-more (λ j. getD cost j 0) (spanIn starts) x i js
+              ∙ ap (λ (l : List ℕ). tally (λ j. getD cost j 0) (spanIn starts) l i) (sym e);
+        }
+
+    pub tallying-other : (getD column (getD row k 0) 0 ≡ 1 → ⊥) → Tallying cost column starts row i found (k + 1)
+    unfolding keep
+    tallying-other h =
+        let t : ℕ → Bool = λ j. eqb (getD column j 0) 1 in
+        let x : ℕ = getD row k 0 in
+        let js : List ℕ = keep t (take k row) in
+        let e : keep t (take (k + 1) row) ≡ js =
+        rw more (keep-append t (take k row) (x ∷ []) ∙ rw (ne-eqb (getD column x 0) 1 h) (append-nil js)) in
+        record {
+          listed = w .listed;
+          within = omega arith;
+          is = w .is ∙ ap (λ (l : List ℕ). tally (λ j. getD cost j 0) (spanIn starts) l i) (sym e);
+        }
+
+  pub tallying-end : length row ≤ k → found ≡ tallyIn cost column starts row i
+  tallying-end h = w .is ∙ ap (λ (l : List ℕ). tallyIn cost column starts l i) (take-all k row h)

@@ -1,0 +1,66 @@
+-- The open rows that are left give the best candidate of all.
+use Prim.Native.Nat.{_-_}
+use native.Mathlib.Omega.{arith}
+use borrow.Author.Needs.{needs}
+use Rattle.candidates.proofs.Best.{Choosing, choosing-start, choosing-low, choosing-open, choosing-closed, choosing-end}
+use Rattle.candidates.proofs.best_candidate.Statement.{statement}
+use Rattle.candidates.proofs.best_candidate.Tie as tie
+
+abbrev Inv-loop : tie.InvT-loop
+Inv-loop cost column row rows starts heads entries best₀ i₀ best i = Choosing cost column row rows starts heads entries best i
+
+abbrev μ-loop : tie.MeasureT-loop
+μ-loop cost column row rows starts heads entries best₀ i₀ best i = rows - i
+
+loop-holds : tie.Need-loop-holds Inv-loop μ-loop
+loop-holds c = choosing-start _ _ _ _ _ _ _ (c .before .pre)
+
+add-i : tie.Need-add-i Inv-loop μ-loop
+add-i c = omega arith
+
+element-copy-out-if1 : tie.Need-element-copy-out-if1 Inv-loop μ-loop
+element-copy-out-if1 c = choosing-low _ _ _ _ _ _ _ _ _ (c .before .loop .inv) (c .loop-test .taken)
+
+row-candidate-requires : tie.Need-row-candidate-requires Inv-loop μ-loop
+row-candidate-requires c κs =
+    let k = c .before .before .before .loop .inv .some in
+    record { p = k .p; kept = k .kept; row = omega (arith, c .before .before .loop-test .taken, k .rows-is) }
+
+better-of-requires : tie.Need-better-of-requires Inv-loop μ-loop
+better-of-requires c κs = search needs
+
+loop-less : tie.Need-loop-less Inv-loop μ-loop
+loop-less c = omega (arith, c .before .before .before .before .loop-test .taken)
+
+loop-again : tie.Need-loop-again Inv-loop μ-loop
+loop-again c =
+    let l = c .before .before .before .before in
+    choosing-open _ _ _ _ _ _ _ _ _ (l .before .loop .inv) (l .loop-test .taken) (c .before .before .if1 .taken) _ _ (c .before .row-candidate .ensures) (c .better-of .ensures)
+
+loop-less-2 : tie.Need-loop-less-2 Inv-loop μ-loop
+loop-less-2 c = omega (arith, c .before .before .loop-test .taken)
+
+loop-again-2 : tie.Need-loop-again-2 Inv-loop μ-loop
+loop-again-2 c =
+    let l = c .before .before in
+    choosing-closed _ _ _ _ _ _ _ _ _ (l .before .loop .inv) (l .loop-test .taken) (c .if1 .left)
+
+returns : tie.Need-returns Inv-loop μ-loop
+returns c = choosing-end _ _ _ _ _ _ _ _ _ (c .before .loop .inv) (c .loop-test .left)
+
+pub best-candidate-spec : {M : Type 1} → statement M
+best-candidate-spec =
+    tie.close
+    (tie.spec
+    Inv-loop
+    μ-loop
+    loop-holds
+    add-i
+    element-copy-out-if1
+    row-candidate-requires
+    better-of-requires
+    loop-less
+    loop-again
+    loop-less-2
+    loop-again-2
+    returns)

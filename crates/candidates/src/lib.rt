@@ -1,0 +1,174 @@
+// Row statistics, the comparison of two candidates by 01's five criteria, and the best candidate of a node.
+use rules::Candidate;
+ghost use mathlib.Core.Path.{_≡_};
+ghost use Prim.Native.Nat.{_≤_, _<_};
+ghost use mathlib.Core.List.{[]};
+ghost use Rattle.rules.specs.Instance.{Instance};
+ghost use Rattle.rules.specs.Reduce.{candidate, precedes};
+ghost use Rattle.matrix.specs.Stored.{ByRow};
+ghost use Rattle.candidates.specs.Row.{view, joined, tallyIn, Listed, SomeRow};
+ghost use Rattle.candidates.specs.Best.{none, better, bestOf, SomeRows};
+
+// The statistics with one more free column, of a cost and a number of rows.
+fn join(a: Candidate, cost: u32, size: u32) -> Candidate
+    requires { ⌜ (a .free < 4096) × (a .ties ≤ a .free) ⌝ }
+    ensures { λ r. ⌜ r ≡ joined a cost size ⌝ }
+{
+    if a.free == 0 {
+        return Candidate {
+            free: 1,
+            ties: 1,
+            cost: cost,
+            short: size,
+            row: a.row,
+        };
+    }
+    if cost < a.cost {
+        return Candidate {
+            free: a.free + 1,
+            ties: 1,
+            cost: cost,
+            short: size,
+            row: a.row,
+        };
+    }
+    if cost != a.cost {
+        return Candidate {
+            free: a.free + 1,
+            ties: a.ties,
+            cost: a.cost,
+            short: a.short,
+            row: a.row,
+        };
+    }
+    if a.short <= size {
+        return Candidate {
+            free: a.free + 1,
+            ties: a.ties + 1,
+            cost: a.cost,
+            short: a.short,
+            row: a.row,
+        };
+    }
+    Candidate {
+        free: a.free + 1,
+        ties: a.ties + 1,
+        cost: a.cost,
+        short: size,
+        row: a.row,
+    }
+}
+
+// The statistics of row i, in one pass over its columns.
+fn statistics(
+    cost: &[u32; 256],
+    column: &[u8; 256],
+    starts: &[u16; 257],
+    row: &[u8],
+    i: u32,
+) -> Candidate
+    requires { ⌜ Listed (now starts) (now row) ⌝ }
+    ensures { λ r. ⌜ r ≡ tallyIn (now (cost .entry)) (now (column .entry)) (now (starts .entry)) (now (row .entry)) i ⌝ }
+{
+    let mut found = Candidate {
+        free: 0,
+        ties: 0,
+        cost: 0,
+        short: 0,
+        row: i,
+    };
+    let mut k = 0;
+    while k < row.len() {
+        let j = row[k] as usize;
+        k += 1;
+        if column[j] == 1 {
+            let size = starts[j + 1] - starts[j];
+            found = join(found, cost[j], size as u32);
+        }
+    }
+    found
+}
+
+// What the criteria look at in a row of a matrix.
+pub fn row_candidate(
+    cost: &[u32; 256],
+    column: &[u8; 256],
+    starts: &[u16; 257],
+    heads: &[u16; 65],
+    entries: &[u8],
+    i: usize,
+) -> Candidate
+    requires { ⌜ SomeRow (now starts) (now heads) (now entries) i ⌝ }
+    ensures { λ r. ⌜ ((p : Instance) → ByRow p (now (starts .entry)) (now (heads .entry)) (now (entries .entry)) → i < p .rows → r ≡ candidate p (view (now (cost .entry)) (now (column .entry)) []) i) ⌝ }
+{
+    let start = heads[i] as usize;
+    let end = heads[i + 1] as usize;
+    statistics(cost, column, starts, &entries[start..end], i as u32)
+}
+
+// Whether candidate a comes before candidate b, by 01's criteria 1 to 5 in turn.
+pub fn comes_before(a: Candidate, b: Candidate) -> bool
+    ensures { λ r. ⌜ r ≡ precedes a b ⌝ }
+{
+    if a.free != b.free {
+        return a.free < b.free;
+    }
+    if a.ties != b.ties {
+        return a.ties < b.ties;
+    }
+    if a.cost != b.cost {
+        return b.cost < a.cost;
+    }
+    if a.short != b.short {
+        return a.short < b.short;
+    }
+    a.row < b.row
+}
+
+// The better of the best so far and one more row: a row with cost 0 is no candidate.
+fn better_of(a: Candidate, b: Candidate) -> Candidate
+    ensures { λ r. ⌜ r ≡ better a b ⌝ }
+{
+    if b.cost == 0 {
+        return a;
+    }
+    if a.cost == 0 {
+        return b;
+    }
+    if comes_before(b, a) {
+        return b;
+    }
+    a
+}
+
+// The row that the next reducing step uses, in one pass over the open rows; its cost is 0 where there is no candidate.
+pub fn best_candidate<'a>(
+    cost: &'a [u32; 256],
+    column: &'a [u8; 256],
+    row: &'a [u8; 64],
+    rows: usize,
+    starts: &[u16; 257],
+    heads: &[u16; 65],
+    entries: &[u8],
+) -> Candidate
+    requires { ⌜ SomeRows rows (now starts) (now heads) (now entries) ⌝ }
+    ensures { λ r. ⌜ ((p : Instance) → rows ≡ p .rows → ByRow p (now (starts .entry)) (now (heads .entry)) (now (entries .entry)) → r ≡ bestOf p (view (now (cost .entry)) (now (column .entry)) (now (row .entry)))) ⌝ }
+{
+    let mut best = Candidate {
+        free: 0,
+        ties: 0,
+        cost: 0,
+        short: 0,
+        row: 0,
+    };
+    let mut i = 0;
+    while i < rows {
+        let at = i;
+        i += 1;
+        if row[at] == 1 {
+            let found = row_candidate(cost, column, starts, heads, entries, at);
+            best = better_of(best, found);
+        }
+    }
+    best
+}

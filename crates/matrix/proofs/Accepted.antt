@@ -1,0 +1,142 @@
+-- The instance of an accepted file is small, since the file's tests bound its numbers; and the bodies lie in the list of row numbers one
+-- after another, as the reader gives them.
+use mathlib.Core.Path.{_≡_, refl, ap, sym, _∙_}
+use mathlib.Core.Bool.{true, false≢true}
+use mathlib.Core.List.{List, [], _∷_}
+use mathlib.Core.Logic.{⊎-elim}
+use Prim.Native.Nat.{ℕ, zero, suc, _+_, _-_, _≤_, _<_}
+use native.Mathlib.Omega.{arith}
+use lib.ListN.{length, getD, take, drop, length-map, length-take, length-drop}
+use borrow.Author.Tests.{ltb-true, leb-true}
+use Rattle.refusals.specs.Refusals.{fine}
+use Rattle.refusals.proofs.Laws.{both, asked}
+use Rattle.rules.specs.Lists.{member}
+use Rattle.rules.specs.Instance.{Instance, width, body, span}
+use Rattle.rules.proofs.Members.{member-cases, and-both}
+use Rattle.rules.proofs.Sums.{total-cong}
+use Rattle.dutyfile.specs.declared.Entry.{Entry}
+use Rattle.dutyfile.specs.File.{rowsIn, columnsIn, bodiesAt, entryOf, entries, costOf, sizeOf, parse, sum, bodies, instance, shape}
+use Rattle.dutyfile.specs.Faults.{rising, bodiesFault, contentsFault, rowsFault}
+use Rattle.dutyfile.proofs.Entries.{length-entries}
+use Rattle.dutyfile.proofs.Facts.{Accepted, contents-small, length-numbers}
+use Rattle.dutyfile.proofs.Columns.{body-at, length-bodies, ColumnAt, column-at}
+use Rattle.matrix.specs.Stored.{Small, ByColumn}
+use Rattle.matrix.specs.Build.{Counts, Starts}
+use Rattle.matrix.proofs.Sums.{sum-more, sum-take-le, total-sum, total-below}
+
+-- numbers that rise within bounds are within them
+rising-member : (low high : ℕ) (xs : List ℕ) (r : ℕ) → rising low high xs ≡ true → member r xs ≡ true → (low < r) × (r ≤ high)
+unfolding rising member
+rising-member low high [] r h m = absurd (false≢true m)
+rising-member low high (x ∷ xs) r h m =
+    let a = and-both h in
+    let b = and-both (a .1) in
+    let l : low < x = ltb-true low x (a .0) in
+    let u : x ≤ high = leb-true x high (b .0) in
+    ⊎-elim (λ e. (omega arith, omega arith)) (λ g. let k = rising-member x high xs r (b .1) g in (omega arith, omega arith)) (member-cases r x xs m)
+
+bodies-rising : (m : ℕ) (bs : List (List ℕ)) (j : ℕ) → bodiesFault m bs ≡ fine → rising 0 m (getD bs j []) ≡ true
+unfolding bodiesFault rising
+bodies-rising m [] j h = refl
+bodies-rising m (b ∷ bs) zero h = asked (rising 0 m b) 9 (both _ _ h .0)
+bodies-rising m (b ∷ bs) (suc j) h = bodies-rising m bs j (both _ _ h .1)
+
+module _ (s : List ℕ) (a : Accepted s) where
+  wide : width (instance (parse s)) ≡ columnsIn s
+  unfolding instance parse
+  wide = length-map (entries s) costOf ∙ length-entries s
+
+  lengths-count : length (parse s .lengths) ≡ columnsIn s
+  unfolding parse
+  lengths-count = length-map (entries s) sizeOf ∙ length-entries s
+
+  pub file-counts : Counts (instance (parse s)) (shape s .rows) (shape s .columns)
+  unfolding shape instance parse
+  file-counts = record { rows-is = refl; columns-is = sym wide }
+
+  column : (j : ℕ) → j < width (instance (parse s)) → ColumnAt s j (entryOf (drop (bodiesAt j) s))
+  column j l = column-at s (a .walked) j (rw wide at l)
+
+  -- where body j lies in the row numbers
+  record Placed (j : ℕ) : Type 0 where
+    length-is : span (instance (parse s)) j ≡ getD (parse s .lengths) j 0
+    inside : sum (take (j + 1) (parse s .lengths)) ≤ length (parse s .numbers)
+    is : body (instance (parse s)) j ≡ take (getD (parse s .lengths) j 0) (drop (sum (take j (parse s .lengths))) (parse s .numbers))
+
+  placed : (j : ℕ) → j < width (instance (parse s)) → Placed j
+  unfolding instance
+  placed j l =
+      let ls : List ℕ = parse s .lengths in
+      let ns : List ℕ = parse s .numbers in
+      let i : j < length ls = rw (lengths-count, ← wide) l in
+      let b : getD (bodies ls ns) j [] ≡ take (getD ls j 0) (drop (sum (take j ls)) ns) = body-at ls ns j i in
+      let e : sum (take (j + 1) ls) ≤ length ns = omega (arith, sum-take-le ls (j + 1), length-numbers s (a .walked)) in
+      record {
+        length-is = ap length b ∙ simp (length-take, length-drop) (omega (arith, e, sum-more ls j i));
+        inside = e;
+        is = b;
+      }
+
+  tall : instance (parse s) .rows ≤ 64
+  unfolding instance parse
+  tall = a .walked .header .counts .rows .most
+
+  numbered : (j r : ℕ) → member r (body (instance (parse s)) j) ≡ true → (1 ≤ r) × (r ≤ instance (parse s) .rows)
+  unfolding instance parse rowsFault
+  numbered j r m = rising-member 0 (rowsIn s) (body (instance (parse s)) j) r (bodies-rising (rowsIn s) (instance (parse s) .bodies) j (a .rising)) m
+
+  covering : (j : ℕ) → j < width (instance (parse s)) → 0 < span (instance (parse s)) j
+  unfolding instance
+  covering j l =
+      let c = column j l in
+      let e : Entry = entryOf (drop (bodiesAt j) s) in
+      let n : length (take (e .size) (drop (e .start) s)) ≡ e .size = simp (length-take, length-drop) (omega (arith, c .inside)) in
+      omega (arith, c .sized .least, ap length (c .body), n)
+
+  contents : sum (parse s .lengths) ≤ 4096
+  unfolding contentsFault
+  contents = contents-small s (a .walked .contents)
+
+  pub file-small : Small (instance (parse s))
+  unfolding instance
+  file-small =
+      let p : Instance = instance (parse s) in
+      record {
+        fits = record {
+          wide = omega (arith, wide, a .walked .header .counts .columns .most);
+          tall = tall;
+        };
+        paired = length-bodies (parse s .lengths) (parse s .numbers) ∙ lengths-count ∙ sym wide;
+        numbered = λ j r l m. numbered j r m;
+        covering = covering;
+        full = omega (
+          arith,
+          total-cong (width p) (span p) (λ j. getD (parse s .lengths) j 0) (λ j l. placed j l .length-is),
+          total-sum (parse s .lengths) (width p) (omega (arith, wide, lengths-count)),
+          sum-take-le (parse s .lengths) (width p),
+          contents,
+        );
+        cheap = omega (
+          arith,
+          wide,
+          a .walked .header .counts .columns .most,
+          total-below (width p) (λ j. getD (p .costs) j 0) (λ j l. let c = column j l in omega (arith, c .cost, c .cheap .most)),
+        );
+      }
+
+  pub file-columns : (starts : List ℕ) → Starts (parse s .lengths) starts → ByColumn (instance (parse s)) starts (parse s .numbers)
+  file-columns starts h = record {
+    small = file-small;
+    column = λ j l.
+        let ls : List ℕ = parse s .lengths in
+        let q = placed j l in
+        let i : j < length ls = rw (lengths-count, ← wide) l in
+        let x : getD starts j 0 ≡ sum (take j ls) = h .start j (omega arith) in
+        let y : getD starts (j + 1) 0 ≡ sum (take (j + 1) ls) = h .start (j + 1) (omega arith) in
+        let z : getD starts (j + 1) 0 - getD starts j 0 ≡ getD ls j 0 = omega (arith, sum-more ls j i) in
+        record {
+          rises = omega (arith, sum-more ls j i);
+          inside = omega (arith, q .inside);
+          is = rw (z, x) (sym (q .is));
+        };
+  }

@@ -1,0 +1,79 @@
+-- The root's tables: a list at the front of zeros is a table, and ones there are the marks of the first rows or columns.
+use mathlib.Core.Path.{_≡_, refl, ap, sym, _∙_}
+use mathlib.Core.Bool.{Bool, true, false}
+use mathlib.Core.List.{List, _++_}
+use Prim.Native.Nat.{ℕ, _+_, _-_, _≤_, _<_}
+use native.Mathlib.Omega.{arith}
+use lib.ListN.{length, getD, drop, replicate, length-replicate, getD-replicate, length-append, length-drop, List·getD-append, List·getD-eq-default, set, length-set}
+use borrow.Author.Fill.{fill-none, fill-more}
+use lib.Seq.{getD-append-add, getD-drop}
+use lib.Dec.{ltb}
+use borrow.Author.Tests.{ltb-true, ltb-false}
+use Rattle.rules.specs.Lists.{on, table}
+use Rattle.rules.proofs.Loops.{table-ext}
+use Rattle.rules.specs.Instance.{Instance}
+use Rattle.rules.specs.Node.{root}
+use Rattle.matrix.specs.Build.{Counts, ones}
+
+-- a list at the front of zeros
+pub zeros-after : (new : List ℕ) (m : ℕ) → length new ≤ m → new ++ drop (length new) (replicate m 0) ≡ table m (λ j. getD new j 0)
+zeros-after new m h = table-ext m (λ j. getD new j 0) (new ++ drop (length new) (replicate m 0)) size (λ k l. go k l (ltb k (length new)) refl)
+  where
+    size : length (new ++ drop (length new) (replicate m 0)) ≡ m
+    size = simp (length-append, length-drop, length-replicate) (omega arith)
+
+    go : (k : ℕ) → k < m → (b : Bool) → ltb k (length new) ≡ b → getD (new ++ drop (length new) (replicate m 0)) k 0 ≡ getD new k 0
+    go k l true e = List·getD-append new (drop (length new) (replicate m 0)) 0 k (ltb-true k (length new) e)
+    go k l false e =
+        let i : length new ≤ k = ltb-false k (length new) e in
+        let q : k ≡ length new + (k - length new) = omega arith in
+        let s : length new + (k - length new) ≡ k = omega arith in
+        ap (λ (z : ℕ). getD (new ++ drop (length new) (replicate m 0)) z 0) q
+        ∙ getD-append-add new (drop (length new) (replicate m 0)) (k - length new) 0
+        ∙ getD-drop (length new) (replicate m 0) (k - length new) 0
+        ∙ rw s (getD-replicate m k 0 0 l)
+        ∙ sym (List·getD-eq-default new 0 i)
+
+ones-at : (n k : ℕ) → getD (replicate n 1) k 0 ≡ on (ltb k n) 1
+ones-at n k = go (ltb k n) refl
+  where
+    go : (b : Bool) → ltb k n ≡ b → getD (replicate n 1) k 0 ≡ on b 1
+    go true e = getD-replicate n k 1 0 (ltb-true k n e)
+    go false e =
+        let i : length {A = ℕ} (replicate n 1) ≤ k = rw (length-replicate {A = ℕ} n 1) (ltb-false k n e) in
+        List·getD-eq-default (replicate n 1) 0 i
+
+ones-table : (n m : ℕ) → n ≤ m → ones n (replicate m 0) ≡ table m (λ j. on (ltb j n) 1)
+ones-table n m h =
+    let z : ones n (replicate m 0) ≡ table m (λ j. getD (replicate n 1) j 0) =
+    rw (length-replicate {A = ℕ} n 1) at (zeros-after (replicate n 1) m (rw (length-replicate {A = ℕ} n 1) h)) in
+    z ∙ simp (ones-at n)
+
+-- the marks that are set one after another
+pub record Marked (marks₀ : List ℕ) (n : ℕ) (marks : List ℕ) (i : ℕ) : Type 0 where
+  pub fits : n ≤ length marks₀
+  pub within : i ≤ n
+  pub long : length marks ≡ length marks₀
+  pub is : marks ≡ ones i marks₀
+
+pub marked-start : (marks : List ℕ) (n : ℕ) → n ≤ length marks → Marked marks n marks 0
+marked-start marks n h = record { fits = h; within = omega arith; long = refl; is = fill-none marks 1 }
+
+module _ (marks₀ : List ℕ) (n : ℕ) (marks : List ℕ) (i : ℕ) (w : Marked marks₀ n marks i) where
+  pub marked-next : i < n → Marked marks₀ n (set marks i 1) (i + 1)
+  marked-next h = record {
+    fits = w .fits;
+    within = omega arith;
+    long = length-set marks i 1 ∙ w .long;
+    is = ap (λ (l : List ℕ). set l i 1) (w .is) ∙ fill-more i 1 marks₀ (omega (arith, w .fits));
+  }
+
+  pub marked-end : n ≤ i → marks ≡ ones n marks₀
+  marked-end h = let e : i ≡ n = omega (arith, w .within) in rw e at (w .is)
+
+pub root-is : (p : Instance) (rows columns : ℕ) (costs column row : List ℕ) → Counts p rows columns → (rows ≤ 64) × (columns ≤ 256) →
+    costs ≡ table 256 (λ j. getD (p .costs) j 0) → column ≡ ones columns (replicate 256 0) → row ≡ ones rows (replicate 64 0) →
+    record { cost = costs; column = column; row = row; bound = 0 } ≡ root p
+unfolding root
+root-is p rows columns costs column row n h e c r =
+    rw (e, c, r, ones-table columns 256 (h .1), ones-table rows 64 (h .0), n .rows-is, n .columns-is)

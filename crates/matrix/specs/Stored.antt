@@ -1,0 +1,40 @@
+-- How a matrix is kept: by columns, the row numbers of all bodies one after another with the place where each body starts; and by rows,
+-- the columns of all rows one after another with the place where each row starts.
+use mathlib.Core.Path.{_≡_}
+use mathlib.Core.Bool.{true}
+use mathlib.Core.List.{List}
+use Prim.Native.Nat.{ℕ, _+_, _-_, _≤_, _<_}
+use lib.ListN.{length, getD, take, drop}
+use Rattle.rules.specs.Lists.{keep, member, total}
+use Rattle.rules.specs.Instance.{Instance, FitsNode, width, columns, body, span, covers}
+
+-- what the instance of an accepted file keeps to
+pub record Small (p : Instance) : Type 0 where
+  pub fits : FitsNode p
+  pub paired : length (p .bodies) ≡ width p
+  pub numbered : (j r : ℕ) → j < width p → member r (body p j) ≡ true → (1 ≤ r) × (r ≤ p .rows)
+  pub covering : (j : ℕ) → j < width p → 0 < span p j
+  pub full : total (width p) (span p) ≤ 4096
+  pub cheap : total (width p) (λ j. getD (p .costs) j 0) ≤ 256000000
+
+-- part k of a list: from its start to the next one's
+abbrev pub partAt : List ℕ → List ℕ → ℕ → List ℕ
+partAt starts l k = take (getD starts (k + 1) 0 - getD starts k 0) (drop (getD starts k 0) l)
+
+pub record Part (starts l : List ℕ) (k : ℕ) (part : List ℕ) : Type 0 where
+  pub rises : getD starts k 0 ≤ getD starts (k + 1) 0
+  pub inside : getD starts (k + 1) 0 ≤ length l
+  pub is : partAt starts l k ≡ part
+
+-- the columns that cover row i, rising
+abbrev pub rowColumns : Instance → ℕ → List ℕ
+rowColumns p i = keep (covers p i) (columns p)
+
+pub record ByColumn (p : Instance) (starts numbers : List ℕ) : Type 0 where
+  pub small : Small p
+  pub column : (j : ℕ) → j < width p → Part starts numbers j (body p j)
+
+pub record ByRow (p : Instance) (starts heads entries : List ℕ) : Type 0 where
+  pub small : Small p
+  pub spans : (j : ℕ) → j < width p → (getD starts j 0 ≤ getD starts (j + 1) 0) × (getD starts (j + 1) 0 - getD starts j 0 ≡ span p j)
+  pub row : (i : ℕ) → i < p .rows → Part heads entries i (rowColumns p i)
