@@ -142,10 +142,10 @@ fn better_of(a: Candidate, b: Candidate) -> Candidate
 }
 
 // The row that the next reducing step uses, in one pass over the open rows; its cost is 0 where there is no candidate.
-pub fn best_candidate(
-    cost: &[u32; 256],
-    column: &[u8; 256],
-    row: &[u8; 64],
+pub fn best_candidate<'a>(
+    cost: &'a [u32; 256],
+    column: &'a [u8; 256],
+    row: &'a [u8; 64],
     rows: usize,
     starts: &[u16; 257],
     heads: &[u16; 65],

@@ -1,0 +1,5 @@
+mod Lowered
+mod Looped
+mod Filled
+mod Called
+pub mod Prices
