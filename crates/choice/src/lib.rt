@@ -1,0 +1,158 @@
+// The choice of the row and of the column to branch on, and the bound of the branch without the column.
+ghost use mathlib.Core.Path.{_≡_};
+ghost use mathlib.Core.List.{List, []};
+ghost use Prim.Native.Nat.{ℕ, _≤_, _<_};
+ghost use lib.ListN.{length};
+ghost use Rattle.rules.specs.Instance.{Instance};
+ghost use Rattle.rules.specs.Tree.{aboveP};
+ghost use Rattle.matrix.specs.Stored.{ByRow};
+ghost use Rattle.candidates.specs.Row.{view};
+ghost use Rattle.choice.specs.Row.{penaltyAt, branchRow, precedes, bestRow, joined, tallyIn, SomeRow, SomeRows};
+
+// What the choice of the row looks at in an open row.
+pub struct BranchRow {
+    // How many free columns at cost 0 the row has.
+    pub zeros: u32,
+    // The penalty: the least cost above 0 among its free columns. 0 where there is none: it is then above any number.
+    pub penalty: u32,
+    // How many free columns the row has.
+    pub free: u32,
+    // The row, from 0.
+    pub row: u32,
+}
+
+// The statistics with one more free column, of a cost.
+fn join(a: BranchRow, cost: u32) -> BranchRow
+    requires { ⌜ (a .free < 4096) × (a .zeros ≤ a .free) ⌝ }
+    ensures { λ r. ⌜ r ≡ joined a cost ⌝ }
+{
+    if cost == 0 {
+        return BranchRow {
+            zeros: a.zeros + 1,
+            penalty: a.penalty,
+            free: a.free + 1,
+            row: a.row,
+        };
+    }
+    if a.penalty == 0 {
+        return BranchRow {
+            zeros: a.zeros,
+            penalty: cost,
+            free: a.free + 1,
+            row: a.row,
+        };
+    }
+    if a.penalty <= cost {
+        return BranchRow {
+            zeros: a.zeros,
+            penalty: a.penalty,
+            free: a.free + 1,
+            row: a.row,
+        };
+    }
+    BranchRow {
+        zeros: a.zeros,
+        penalty: cost,
+        free: a.free + 1,
+        row: a.row,
+    }
+}
+
+// The statistics of row i, in one pass over its columns.
+fn statistics(cost: &[u32; 256], column: &[u8; 256], row: &[u8], i: u32) -> BranchRow
+    requires { ⌜ length (now row) ≤ 4096 ⌝ }
+    ensures { λ r. ⌜ r ≡ tallyIn (now (cost .entry)) (now (column .entry)) (now (row .entry)) i ⌝ }
+{
+    let mut found = BranchRow {
+        zeros: 0,
+        penalty: 0,
+        free: 0,
+        row: i,
+    };
+    let mut k = 0;
+    while k < row.len() {
+        let j = row[k] as usize;
+        k += 1;
+        if column[j] == 1 {
+            found = join(found, cost[j]);
+        }
+    }
+    found
+}
+
+// What the choice looks at in a row of a matrix.
+fn row_statistics(
+    cost: &[u32; 256],
+    column: &[u8; 256],
+    heads: &[u16; 65],
+    entries: &[u8],
+    i: usize,
+) -> BranchRow
+    requires { ⌜ SomeRow (now heads) (now entries) i ⌝ }
+    ensures { λ r. ⌜ ((p : Instance) (starts : List ℕ) → ByRow p starts (now (heads .entry)) (now (entries .entry)) → i < p .rows → r ≡ branchRow p (view (now (cost .entry)) (now (column .entry)) []) i) ⌝ }
+{
+    let start = heads[i] as usize;
+    let end = heads[i + 1] as usize;
+    statistics(cost, column, &entries[start..end], i as u32)
+}
+
+// Whether penalty a is above penalty b.
+fn is_above(a: u32, b: u32) -> bool
+    ensures { λ r. ⌜ r ≡ aboveP (penaltyAt a) (penaltyAt b) ⌝ }
+{
+    if b == 0 {
+        return false;
+    }
+    if a == 0 {
+        return true;
+    }
+    b < a
+}
+
+// Whether row a comes before row b: fewest free columns at cost 0, largest penalty, fewest free columns, lowest number.
+pub fn row_precedes(a: BranchRow, b: BranchRow) -> bool
+    ensures { λ r. ⌜ r ≡ precedes a b ⌝ }
+{
+    if a.zeros != b.zeros {
+        return a.zeros < b.zeros;
+    }
+    if a.penalty != b.penalty {
+        return is_above(a.penalty, b.penalty);
+    }
+    if a.free != b.free {
+        return a.free < b.free;
+    }
+    a.row < b.row
+}
+
+// The row to branch on, in one pass over the open rows. Where no row is open it has 257 columns at cost 0, which no row has.
+pub fn branch_row<'a>(
+    cost: &'a [u32; 256],
+    column: &'a [u8; 256],
+    row: &'a [u8; 64],
+    rows: usize,
+    heads: &[u16; 65],
+    entries: &[u8],
+) -> BranchRow
+    requires { ⌜ SomeRows rows (now heads) (now entries) ⌝ }
+    ensures { λ r. ⌜ ((p : Instance) (starts : List ℕ) → rows ≡ p .rows → ByRow p starts (now (heads .entry)) (now (entries .entry)) → r ≡ bestRow p (view (now (cost .entry)) (now (column .entry)) (now (row .entry)))) ⌝ }
+{
+    let mut best = BranchRow {
+        zeros: 257,
+        penalty: 0,
+        free: 0,
+        row: 0,
+    };
+    let mut i = 0;
+    while i < rows {
+        let at = i;
+        i += 1;
+        if row[at] == 1 {
+            let found = row_statistics(cost, column, heads, entries, at);
+            if row_precedes(found, best) {
+                best = found;
+            }
+        }
+    }
+    best
+}
