@@ -5,3 +5,10 @@ mod Tally
 mod Criteria
 mod Row
 mod Rows
+mod Without
+-- and of the column.
+mod Seen
+mod Products
+mod Sharing
+mod Column
+mod Columns
