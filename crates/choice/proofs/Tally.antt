@@ -14,7 +14,7 @@ use Rattle.rules.proofs.Members.{kept, least-at, keep-short}
 use Rattle.rules.proofs.Loops.{keep-append}
 use Rattle.candidates.proofs.Keep.{least-more}
 use Rattle.choice.specs.declared.BranchRow.{BranchRow}
-use Rattle.choice.specs.Row.{tally, joined, tallyIn}
+use Rattle.choice.specs.Row.{tally, lowerPenalty, joined, tallyIn}
 
 -- one more element, which passes a test or does not
 more-in : (t : ℕ → Bool) (xs : List ℕ) (x : ℕ) → t x ≡ true → keep t (xs ++ (x ∷ [])) ≡ keep t xs ++ (x ∷ [])
@@ -53,7 +53,7 @@ module _ (f : ℕ → ℕ) (x i : ℕ) (js : List ℕ) where
 
   module _ (h : 0 < f x) where
     first-above : above ≡ [] → joined (tally f js i) (f x) ≡ tally f (js ++ (x ∷ [])) i
-    unfolding joined tally least leastFrom above
+    unfolding joined lowerPenalty tally least leastFrom above
     first-above e =
         rw (ne-eqb (f x) 0 (λ q. omega arith), e)
         (sym (rw (
@@ -64,7 +64,7 @@ module _ (f : ℕ → ℕ) (x i : ℕ) (js : List ℕ) where
         )))
 
     further-above : 0 < length above → joined (tally f js i) (f x) ≡ tally f (js ++ (x ∷ [])) i
-    unfolding joined tally above
+    unfolding joined lowerPenalty tally above
     further-above l =
         rw (ne-eqb (f x) 0 (λ q. omega arith), ne-eqb (least f (keep (λ j. ltb 0 (f j)) js)) 0 (λ q. omega (arith, least-above f js l)))
         (sym (rw (

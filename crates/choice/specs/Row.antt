@@ -58,14 +58,16 @@ tally f js i = record {
   row = i;
 }
 
+-- a penalty's number with one more cost above 0
+unfoldable pub lowerPenalty : ℕ → ℕ → ℕ
+lowerPenalty q c = cond (eqb q 0) c (min q c)
+
 -- with one more free column, of cost c
 unfoldable pub joined : BranchRow → ℕ → BranchRow
 joined a c =
     cond (eqb c 0)
     (record { zeros = a .zeros + 1; penalty = a .penalty; free = a .free + 1; row = a .row })
-    (cond (eqb (a .penalty) 0)
-    (record { zeros = a .zeros; penalty = c; free = a .free + 1; row = a .row })
-    (record { zeros = a .zeros; penalty = min (a .penalty) c; free = a .free + 1; row = a .row }))
+    (record { zeros = a .zeros; penalty = lowerPenalty (a .penalty) c; free = a .free + 1; row = a .row })
 
 -- of row i, whose columns are given
 abbrev pub tallyIn : List ℕ → List ℕ → List ℕ → ℕ → BranchRow

@@ -10,7 +10,7 @@ ghost use Rattle.rules.specs.declared.Node.{Node};
 ghost use Rattle.rules.specs.Tree.{sum, aboveP, zeros, penalty, withoutBound};
 ghost use Rattle.matrix.specs.Stored.{ByColumn, ByRow};
 ghost use Rattle.candidates.specs.Row.{view};
-ghost use Rattle.choice.specs.Row.{penaltyAt, branchRow, precedes, bestRow, joined, tallyIn, SomeRow, SomeRows};
+ghost use Rattle.choice.specs.Row.{penaltyAt, branchRow, precedes, bestRow, lowerPenalty, joined, tallyIn, SomeRow, SomeRows};
 ghost use Rattle.choice.specs.Column.{zeroIn, Counted, InRows, InColumns, sharingIn, branchColumn, columnPrecedes, columnOf, bestColumn, Few, SomeBody, SomeColumn, SomeList, SomeBoth};
 
 // What the choice of the row looks at in an open row.
@@ -23,6 +23,19 @@ pub struct BranchRow {
     pub free: u32,
     // The row, from 0.
     pub row: u32,
+}
+
+// A penalty with one more cost above 0.
+fn lower_penalty(penalty: u32, cost: u32) -> u32
+    ensures { λ r. ⌜ r ≡ lowerPenalty penalty cost ⌝ }
+{
+    if penalty == 0 {
+        return cost;
+    }
+    if penalty <= cost {
+        return penalty;
+    }
+    cost
 }
 
 // The statistics with one more free column, of a cost.
@@ -38,25 +51,10 @@ fn join(a: BranchRow, cost: u32) -> BranchRow
             row: a.row,
         };
     }
-    if a.penalty == 0 {
-        return BranchRow {
-            zeros: a.zeros,
-            penalty: cost,
-            free: a.free + 1,
-            row: a.row,
-        };
-    }
-    if a.penalty <= cost {
-        return BranchRow {
-            zeros: a.zeros,
-            penalty: a.penalty,
-            free: a.free + 1,
-            row: a.row,
-        };
-    }
+    let penalty = lower_penalty(a.penalty, cost);
     BranchRow {
         zeros: a.zeros,
-        penalty: cost,
+        penalty: penalty,
         free: a.free + 1,
         row: a.row,
     }

@@ -2,17 +2,21 @@
 use native.Mathlib.Omega.{arith}
 use mathlib.Core.Path.{refl}
 use Rattle.choice.specs.Column.{columnPrecedes}
-use Rattle.choice.proofs.Products.{small-product}
+use Rattle.choice.proofs.Products.{small-products}
 use Rattle.choice.proofs.column_precedes.Statement.{statement}
 use Rattle.choice.proofs.column_precedes.Tie as tie
 
 mul-result : tie.Need-mul-result
-mul-result c = let s = c .before .before in omega (arith, small-product (s .args .a) (s .args .b) (s .pre .0) (s .pre .1))
+mul-result c =
+    let s = c .before .before in
+    let h = small-products (s .args .a) (s .args .b) (s .pre) in
+    omega (arith, h .0, h .1)
 
 mul-result-2 : tie.Need-mul-result-2
 mul-result-2 c =
     let s = c .before .before .before .before in
-    omega (arith, small-product (s .args .b) (s .args .a) (s .pre .1) (s .pre .0))
+    let h = small-products (s .args .a) (s .args .b) (s .pre) in
+    omega (arith, h .0, h .1)
 
 returns : tie.Need-returns
 unfolding columnPrecedes
