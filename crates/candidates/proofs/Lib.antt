@@ -1,5 +1,5 @@
-mod Keep
-mod Criteria
-mod Tally
-mod Candidate
-mod Best
+pub mod Keep
+pub mod Criteria
+pub mod Tally
+pub mod Candidate
+pub mod Best

@@ -87,10 +87,10 @@ module _ (p : Instance) where
       )
 
   -- two columns that share a row
-  Shared : ℕ → ℕ → Type 0
+  unfoldable pub Shared : ℕ → ℕ → Type 0
   Shared j k = (i : ℕ) × (i < p .rows) × (covers p i j ≡ true) × (covers p i k ≡ true)
 
-  meets-at : (j k : ℕ) → meets p j k ≡ true → Shared j k
+  pub meets-at : (j k : ℕ) → meets p j k ≡ true → Shared j k
   unfolding Shared meets isEmpty
   meets-at j k h = go (keep t (upto (p .rows))) refl h
     where

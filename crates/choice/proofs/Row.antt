@@ -1,0 +1,77 @@
+-- A row's statistics are those of its own columns, and the order of two rows is that of their statistics: a penalty is most where no free
+-- column is above cost 0, and then the least of their costs is 0.
+use mathlib.Core.Path.{_≡_, refl, ap, sym, _∙_}
+use mathlib.Core.Bool.{true}
+use mathlib.Core.List.{List, [], _∷_}
+use Prim.Native.Nat.{ℕ, zero, suc, _≤_, _<_}
+use native.Mathlib.Omega.{arith}
+use lib.ListN.{length}
+use lib.Dec.{eqb, ltb}
+use borrow.Author.Tests.{lt-ltb}
+use Rattle.rules.specs.declared.Node.{Node}
+use Rattle.rules.specs.Lists.{keep, least}
+use Rattle.rules.specs.Instance.{Instance, width, columns, covers}
+use Rattle.rules.specs.Node.{isFree, costAt, freeColumns, freeOf}
+use Rattle.rules.specs.Reduce.{byOrder}
+use Rattle.rules.specs.Tree.{sum, just, most, penaltyOf, zeros, dearer, penalty, rowBefore}
+use Rattle.rules.proofs.Members.{keep-short, keep-upto}
+use Rattle.matrix.specs.Stored.{partAt, ByRow}
+use Rattle.candidates.specs.Row.{view}
+use Rattle.candidates.proofs.Candidate.{free-row}
+use Rattle.choice.specs.Row.{amount, penaltyAt, branchRow, precedes, noRow, tally, tallyIn}
+use Rattle.choice.proofs.Tally.{least-above}
+
+amount-is : (f : ℕ → ℕ) (ks : List ℕ) → least f ks ≡ amount (penaltyOf f ks)
+unfolding amount penaltyOf least
+amount-is f [] = refl
+amount-is f (k ∷ ks) = refl
+
+above-zero : (c : ℕ) → 0 < c → penaltyAt c ≡ just c
+unfolding penaltyAt
+above-zero zero h = absurd (omega arith)
+above-zero (suc c) h = refl
+
+module _ (p : Instance) (s : Node) where
+  tally-row : (i : ℕ) → tally (costAt s) (freeOf p s i) i ≡ branchRow p s i
+  unfolding tally branchRow zeros dearer penalty
+  tally-row i = rw (amount-is (costAt s) (keep (λ j. ltb 0 (costAt s j)) (freeOf p s i)))
+
+  -- a penalty is the one that its number stands for
+  number-of : (i : ℕ) → penaltyAt (amount (penalty (sum p) p s i)) ≡ penalty (sum p) p s i
+  unfolding penalty dearer penaltyAt amount penaltyOf
+  number-of i = go (keep (λ j. ltb 0 (costAt s j)) (freeOf p s i)) refl
+    where
+      go : (ks : List ℕ) → keep (λ j. ltb 0 (costAt s j)) (freeOf p s i) ≡ ks →
+          penaltyAt (amount (penaltyOf (costAt s) ks)) ≡ penaltyOf (costAt s) ks
+      go [] e = refl
+      go (k ∷ ks) e =
+          above-zero (least (costAt s) (k ∷ ks)) (rw e at (least-above (costAt s) (freeOf p s i) (rw e (omega arith))))
+
+  pub same-order : (i k : ℕ) → precedes (branchRow p s i) (branchRow p s k) ≡ rowBefore (sum p) p s i k
+  unfolding precedes branchRow rowBefore
+  same-order i k = rw (number-of i, number-of k)
+
+  -- every row of an instance comes before none
+  pub before-none : width p ≤ 256 → (i : ℕ) → precedes (branchRow p s i) noRow ≡ true
+  unfolding precedes branchRow byOrder zeros freeOf freeColumns
+  before-none w i =
+      let fs : List ℕ = keep (isFree s) (columns p) in
+      let l : length (zeros (sum p) p s i) < 257 = omega (
+        arith,
+        keep-short (λ j. eqb (costAt s j) 0) (keep (covers p i) fs),
+        keep-short (covers p i) fs,
+        keep-upto (isFree s) (width p),
+      ) in
+      rw (lt-ltb (length (zeros (sum p) p s i)) 257 l)
+
+module _ (p : Instance) (starts heads entries : List ℕ) (k : ByRow p starts heads entries) (i : ℕ) (l : i < p .rows) where
+  -- a row is a part of the entries
+  pub row-few : length (partAt heads entries i) ≤ 4096
+  row-few = rw (k .row i l .is) (omega (arith, keep-upto (covers p i) (width p), k .small .fits .wide))
+
+  pub row-is : (cost column : List ℕ) → tallyIn cost column (partAt heads entries i) i ≡ branchRow p (view cost column []) i
+  row-is cost column =
+      let s : Node = view cost column [] in
+      ap (λ (r : List ℕ). tallyIn cost column r i) (k .row i l .is)
+      ∙ ap (λ (r : List ℕ). tally (costAt s) r i) (sym (free-row p s i))
+      ∙ tally-row p s i

@@ -1,0 +1,82 @@
+-- The statistics so far are those of the free columns among the ones read.
+use Prim.Native.Nat.{_-_}
+use lib.ListN.{length}
+use native.Mathlib.Omega.{arith}
+use Rattle.choice.proofs.Tally.{Tallying, tallying-start, tallying-few, tallying-free, tallying-other, tallying-end}
+use Rattle.choice.proofs.statistics.Statement.{statement}
+use Rattle.choice.proofs.statistics.Tie as tie
+
+abbrev Inv-loop : tie.InvT-loop
+Inv-loop cost column row i found₀ k₀ found k = Tallying cost column row i found k
+
+abbrev μ-loop : tie.MeasureT-loop
+μ-loop cost column row i found₀ k₀ found k = length row - k
+
+loop-holds : tie.Need-loop-holds Inv-loop μ-loop
+loop-holds c = tallying-start _ _ _ _ (c .before .pre)
+
+shared-slice-read-j : tie.Need-shared-slice-read-j Inv-loop μ-loop
+shared-slice-read-j c = omega arith
+
+cast-j : tie.Need-cast-j Inv-loop μ-loop
+cast-j c = omega (arith, c .shared-slice-known2 .given (c .before .before .loop .k))
+
+add-k : tie.Need-add-k Inv-loop μ-loop
+add-k c = omega arith
+
+element-copy-out-if1 : tie.Need-element-copy-out-if1 Inv-loop μ-loop
+element-copy-out-if1 c = omega (arith, c .shared-slice-known2 .given (c .before .before .loop .k))
+
+mul-join : tie.Need-mul-join Inv-loop μ-loop
+mul-join c =
+    let d = c .before .before in
+    omega (arith, d .shared-slice-known2 .given (d .before .before .loop .k))
+
+element-copy-out-join : tie.Need-element-copy-out-join Inv-loop μ-loop
+element-copy-out-join c =
+    let d = c .before .before in
+    omega (arith, d .shared-slice-known2 .given (d .before .before .loop .k))
+
+join-requires : tie.Need-join-requires Inv-loop μ-loop
+join-requires c κs =
+    let l = c .before .before .before .before in
+    tallying-few _ _ _ _ _ _ (l .before .loop .inv) (l .loop-test .taken)
+
+loop-less : tie.Need-loop-less Inv-loop μ-loop
+loop-less c = omega (arith, c .before .before .before .before .before .loop-test .taken)
+
+loop-again : tie.Need-loop-again Inv-loop μ-loop
+loop-again c =
+    let l = c .before .before .before .before .before in
+    tallying-free _ _ _ _ _ _ (l .before .loop .inv) (l .loop-test .taken) (c .before .before .if1 .taken) _ (c .join .ensures)
+
+loop-less-2 : tie.Need-loop-less-2 Inv-loop μ-loop
+loop-less-2 c = omega arith
+
+loop-again-2 : tie.Need-loop-again-2 Inv-loop μ-loop
+loop-again-2 c =
+    let l = c .before .before .before in
+    tallying-other _ _ _ _ _ _ (l .before .loop .inv) (l .loop-test .taken) (c .if1 .left)
+
+returns : tie.Need-returns Inv-loop μ-loop
+returns c = tallying-end _ _ _ _ _ _ (c .before .loop .inv) (c .loop-test .left)
+
+pub statistics-spec : {M : Type 1} → statement M
+statistics-spec =
+    tie.close
+    (tie.spec
+    Inv-loop
+    μ-loop
+    loop-holds
+    shared-slice-read-j
+    cast-j
+    add-k
+    element-copy-out-if1
+    mul-join
+    element-copy-out-join
+    join-requires
+    loop-less
+    loop-again
+    loop-less-2
+    loop-again-2
+    returns)

@@ -1,0 +1,3 @@
+pub mod Best
+pub mod Row
+pub mod Column

@@ -1,0 +1,331 @@
+// The choice of the row and of the column to branch on, and the bound of the branch without the column.
+ghost use mathlib.Core.Path.{_≡_};
+ghost use mathlib.Core.List.{List, []};
+ghost use mathlib.Core.Bool.{_&&_};
+ghost use Prim.Native.Nat.{ℕ, _+_, _≤_, _<_};
+ghost use lib.Dec.{eqb};
+ghost use lib.ListN.{length, getD};
+ghost use Rattle.rules.specs.Instance.{Instance, width};
+ghost use Rattle.rules.specs.declared.Node.{Node};
+ghost use Rattle.rules.specs.Tree.{sum, aboveP, zeros, penalty, withoutBound};
+ghost use Rattle.matrix.specs.Stored.{ByColumn, ByRow};
+ghost use Rattle.candidates.specs.Row.{view};
+ghost use Rattle.choice.specs.Row.{penaltyAt, branchRow, precedes, bestRow, lowerPenalty, joined, tallyIn, SomeRow, SomeRows};
+ghost use Rattle.choice.specs.Column.{zeroIn, Counted, InRows, InColumns, sharingIn, branchColumn, columnPrecedes, columnOf, bestColumn, Few, SomeBody, SomeColumn, SomeList, SomeBoth};
+
+// What the choice of the row looks at in an open row.
+pub struct BranchRow {
+    // How many free columns at cost 0 the row has.
+    pub zeros: u32,
+    // The penalty: the least cost above 0 among its free columns. 0 where there is none: it is then above any number.
+    pub penalty: u32,
+    // How many free columns the row has.
+    pub free: u32,
+    // The row, from 0.
+    pub row: u32,
+}
+
+// A penalty with one more cost above 0.
+fn lower_penalty(penalty: u32, cost: u32) -> u32
+    ensures { λ r. ⌜ r ≡ lowerPenalty penalty cost ⌝ }
+{
+    if penalty == 0 {
+        return cost;
+    }
+    if penalty <= cost {
+        return penalty;
+    }
+    cost
+}
+
+// The statistics with one more free column, of a cost.
+fn join(a: BranchRow, cost: u32) -> BranchRow
+    requires { ⌜ (a .free < 4096) × (a .zeros ≤ a .free) ⌝ }
+    ensures { λ r. ⌜ r ≡ joined a cost ⌝ }
+{
+    if cost == 0 {
+        return BranchRow {
+            zeros: a.zeros + 1,
+            penalty: a.penalty,
+            free: a.free + 1,
+            row: a.row,
+        };
+    }
+    let penalty = lower_penalty(a.penalty, cost);
+    BranchRow {
+        zeros: a.zeros,
+        penalty: penalty,
+        free: a.free + 1,
+        row: a.row,
+    }
+}
+
+// The statistics of row i, in one pass over its columns.
+fn statistics(cost: &[u32; 256], column: &[u8; 256], row: &[u8], i: u32) -> BranchRow
+    requires { ⌜ length (now row) ≤ 4096 ⌝ }
+    ensures { λ r. ⌜ r ≡ tallyIn (now (cost .entry)) (now (column .entry)) (now (row .entry)) i ⌝ }
+{
+    let mut found = BranchRow {
+        zeros: 0,
+        penalty: 0,
+        free: 0,
+        row: i,
+    };
+    let mut k = 0;
+    while k < row.len() {
+        let j = row[k] as usize;
+        k += 1;
+        if column[j] == 1 {
+            found = join(found, cost[j]);
+        }
+    }
+    found
+}
+
+// What the choice looks at in a row of a matrix.
+fn row_statistics(
+    cost: &[u32; 256],
+    column: &[u8; 256],
+    heads: &[u16; 65],
+    entries: &[u8],
+    i: usize,
+) -> BranchRow
+    requires { ⌜ SomeRow (now heads) (now entries) i ⌝ }
+    ensures { λ r. ⌜ ((p : Instance) (starts : List ℕ) → ByRow p starts (now (heads .entry)) (now (entries .entry)) → i < p .rows → r ≡ branchRow p (view (now (cost .entry)) (now (column .entry)) []) i) ⌝ }
+{
+    let start = heads[i] as usize;
+    let end = heads[i + 1] as usize;
+    statistics(cost, column, &entries[start..end], i as u32)
+}
+
+// Whether penalty a is above penalty b.
+fn is_above(a: u32, b: u32) -> bool
+    ensures { λ r. ⌜ r ≡ aboveP (penaltyAt a) (penaltyAt b) ⌝ }
+{
+    if b == 0 {
+        return false;
+    }
+    if a == 0 {
+        return true;
+    }
+    b < a
+}
+
+// Whether row a comes before row b: fewest free columns at cost 0, largest penalty, fewest free columns, lowest number.
+pub fn row_precedes(a: BranchRow, b: BranchRow) -> bool
+    ensures { λ r. ⌜ r ≡ precedes a b ⌝ }
+{
+    if a.zeros != b.zeros {
+        return a.zeros < b.zeros;
+    }
+    if a.penalty != b.penalty {
+        return is_above(a.penalty, b.penalty);
+    }
+    if a.free != b.free {
+        return a.free < b.free;
+    }
+    a.row < b.row
+}
+
+// The row to branch on, in one pass over the open rows. Where no row is open it has 257 columns at cost 0, which no row has.
+pub fn branch_row<'a>(
+    cost: &'a [u32; 256],
+    column: &'a [u8; 256],
+    row: &'a [u8; 64],
+    rows: usize,
+    heads: &[u16; 65],
+    entries: &[u8],
+) -> BranchRow
+    requires { ⌜ SomeRows rows (now heads) (now entries) ⌝ }
+    ensures { λ r. ⌜ ((p : Instance) (starts : List ℕ) → rows ≡ p .rows → ByRow p starts (now (heads .entry)) (now (entries .entry)) → r ≡ bestRow p (view (now (cost .entry)) (now (column .entry)) (now (row .entry)))) ⌝ }
+{
+    let mut best = BranchRow {
+        zeros: 257,
+        penalty: 0,
+        free: 0,
+        row: 0,
+    };
+    let mut i = 0;
+    while i < rows {
+        let at = i;
+        i += 1;
+        if row[at] == 1 {
+            let found = row_statistics(cost, column, heads, entries, at);
+            if row_precedes(found, best) {
+                best = found;
+            }
+        }
+    }
+    best
+}
+
+// The bound of the branch without the column: with the penalty where the row has just one column at cost 0.
+pub fn without_bound(bound: u32, a: BranchRow) -> u32
+    requires { ⌜ bound + a .penalty < 4294967296 ⌝ }
+    ensures { λ r. ⌜ ((p : Instance) (s : Node) (i : ℕ) → a ≡ branchRow p s i → r ≡ withoutBound bound (zeros (sum p) p s i) (penalty (sum p) p s i)) ⌝ }
+{
+    if a.zeros == 1 {
+        return bound + a.penalty;
+    }
+    bound
+}
+
+// Whether a column is free and at cost 0.
+fn is_zero(mark: u8, cost: u32) -> bool
+    ensures { λ r. ⌜ r ≡ (eqb mark 1 && eqb cost 0) ⌝ }
+{
+    if mark != 1 {
+        return false;
+    }
+    cost == 0
+}
+
+// Marks the free columns of a row at cost 0 as seen, and counts those that were not.
+fn mark_row(cost: &[u32; 256], column: &[u8; 256], row: &[u8], seen: &mut [u8; 256]) -> u32
+    requires { ⌜ (length (now row) ≤ 4096) × (length (now seen) ≡ 256) ⌝ }
+    ensures { λ r. ⌜ Counted (zeroIn (now (cost .entry)) (now (column .entry))) (now (row .entry)) (now (seen .entry)) (now (seen .exit)) r ⌝ }
+{
+    let mut count = 0;
+    let mut k = 0;
+    while k < row.len() {
+        let j = row[k] as usize;
+        k += 1;
+        if is_zero(column[j], cost[j]) {
+            if seen[j] == 0 {
+                seen[j] = 1;
+                count += 1;
+            }
+        }
+    }
+    count
+}
+
+// No column seen.
+fn none_seen() -> [u8; 256]
+    ensures { λ r. ⌜ ((k : ℕ) → k < 256 → getD r k 0 ≡ 0) ⌝ }
+{
+    [0u8; 256]
+}
+
+// How many free columns at cost 0 cover one of the rows of a body, each counted once.
+fn count_sharing(
+    cost: &[u32; 256],
+    column: &[u8; 256],
+    heads: &[u16; 65],
+    entries: &[u8],
+    body: &[u8],
+) -> u32
+    requires { ⌜ SomeBody (now heads) (now entries) (now body) ⌝ }
+    ensures { λ r. ⌜ ((p : Instance) (starts : List ℕ) → ByRow p starts (now (heads .entry)) (now (entries .entry)) → InRows p (now (body .entry)) → r ≡ sharingIn p (zeroIn (now (cost .entry)) (now (column .entry))) (now (body .entry))) ⌝ }
+{
+    let mut seen = none_seen();
+    let mut count = 0;
+    let mut k = 0;
+    while k < body.len() {
+        let i = body[k] as usize - 1;
+        k += 1;
+        let start = heads[i] as usize;
+        let end = heads[i + 1] as usize;
+        count += mark_row(cost, column, &entries[start..end], &mut seen);
+    }
+    count
+}
+
+// What the choice of the column looks at in a column.
+pub struct BranchColumn {
+    // How many free columns at cost 0 share a row with it, itself included (01: C).
+    pub share: u32,
+    // How many rows it covers (01: s).
+    pub size: u32,
+    // The column, from 0.
+    pub column: u32,
+}
+
+// What the choice looks at in a column of a matrix.
+fn column_statistics(
+    cost: &[u32; 256],
+    column: &[u8; 256],
+    starts: &[u16; 257],
+    numbers: &[u8],
+    heads: &[u16; 65],
+    entries: &[u8],
+    j: usize,
+) -> BranchColumn
+    requires { ⌜ SomeColumn (now starts) (now numbers) (now heads) (now entries) j ⌝ }
+    ensures { λ r. ⌜ ((p : Instance) → ByColumn p (now (starts .entry)) (now (numbers .entry)) → ByRow p (now (starts .entry)) (now (heads .entry)) (now (entries .entry)) → j < width p → r ≡ branchColumn p (view (now (cost .entry)) (now (column .entry)) []) j) ⌝ }
+{
+    let start = starts[j] as usize;
+    let end = starts[j + 1] as usize;
+    let share = count_sharing(cost, column, heads, entries, &numbers[start..end]);
+    BranchColumn {
+        share: share,
+        size: (end - start) as u32,
+        column: j as u32,
+    }
+}
+
+// Whether column a comes before column b: the lesser share / size, by products.
+pub fn column_precedes(a: BranchColumn, b: BranchColumn) -> bool
+    requires { ⌜ Few a × Few b ⌝ }
+    ensures { λ r. ⌜ r ≡ columnPrecedes a b ⌝ }
+{
+    a.share * b.size < b.share * a.size
+}
+
+// The column to branch on among the columns of a row.
+fn column_in(
+    cost: &[u32; 256],
+    column: &[u8; 256],
+    starts: &[u16; 257],
+    numbers: &[u8],
+    heads: &[u16; 65],
+    entries: &[u8],
+    row: &[u8],
+) -> BranchColumn
+    requires { ⌜ SomeList (now starts) (now numbers) (now heads) (now entries) (now row) ⌝ }
+    ensures { λ r. ⌜ ((p : Instance) → ByColumn p (now (starts .entry)) (now (numbers .entry)) → ByRow p (now (starts .entry)) (now (heads .entry)) (now (entries .entry)) → InColumns p (now (row .entry)) → r ≡ columnOf p (now (cost .entry)) (now (column .entry)) (now (row .entry))) ⌝ }
+{
+    let mut best = BranchColumn {
+        share: 1,
+        size: 0,
+        column: 0,
+    };
+    let mut k = 0;
+    while k < row.len() {
+        let j = row[k] as usize;
+        k += 1;
+        if is_zero(column[j], cost[j]) {
+            let found = column_statistics(cost, column, starts, numbers, heads, entries, j);
+            if column_precedes(found, best) {
+                best = found;
+            }
+        }
+    }
+    best
+}
+
+// The column to branch on, of the free columns of row i at cost 0. Where there are none its size is 0, which no column has.
+pub fn branch_column<'a>(
+    cost: &'a [u32; 256],
+    column: &'a [u8; 256],
+    starts: &[u16; 257],
+    numbers: &[u8],
+    heads: &[u16; 65],
+    entries: &[u8],
+    i: usize,
+) -> BranchColumn
+    requires { ⌜ SomeBoth (now starts) (now numbers) (now heads) (now entries) i ⌝ }
+    ensures { λ r. ⌜ ((p : Instance) → ByColumn p (now (starts .entry)) (now (numbers .entry)) → ByRow p (now (starts .entry)) (now (heads .entry)) (now (entries .entry)) → i < p .rows → r ≡ bestColumn p (view (now (cost .entry)) (now (column .entry)) []) i) ⌝ }
+{
+    let start = heads[i] as usize;
+    let end = heads[i + 1] as usize;
+    column_in(
+        cost,
+        column,
+        starts,
+        numbers,
+        heads,
+        entries,
+        &entries[start..end],
+    )
+}
