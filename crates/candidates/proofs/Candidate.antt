@@ -7,14 +7,14 @@ use Prim.Native.Nat.{ℕ, _<_}
 use native.Mathlib.Omega.{arith}
 use lib.ListN.{getD}
 use lib.Dec.{eqb}
-use Rattle.rules.specs.declared.Node.{Node}
-use Rattle.rules.specs.Lists.{keep, member, least}
-use Rattle.rules.specs.Instance.{Instance, width, columns, span, covers}
-use Rattle.rules.specs.Node.{isFree, costAt, freeColumns, freeOf}
+use Rattle.node.specs.declared.Node.{Node}
+use Rattle.node.specs.Lists.{keep, member, least}
+use Rattle.node.specs.Instance.{Instance, width, columns, span, covers}
+use Rattle.node.specs.Node.{isFree, costAt, freeColumns, freeOf}
 use Rattle.rules.specs.Reduce.{leastOf, candidate}
 use Rattle.rules.proofs.Members.{kept, upto-lt, keep-upto}
 use Rattle.rules.proofs.Sums.{total-one}
-use Rattle.matrix.specs.Stored.{partAt, rowColumns, ByRow}
+use Rattle.node.specs.Stored.{partAt, rowColumns, ByRow}
 use Rattle.matrix.proofs.Parts.{row-column}
 use Rattle.candidates.specs.Row.{view, tallyAt, tally, spanIn, tallyIn, Listed}
 use Rattle.candidates.proofs.Keep.{keep-swap, least-cong}

@@ -5,7 +5,7 @@ use mathlib.Core.List.{List, [], _∷_, _++_}
 use Prim.Native.Nat.{ℕ, _<_, min}
 use native.Mathlib.Omega.{arith}
 use lib.ListN.{length}
-use Rattle.rules.specs.Lists.{keep, member, least}
+use Rattle.node.specs.Lists.{keep, member, least}
 use Rattle.rules.proofs.Members.{here, there, least-mono}
 use Rattle.rules.proofs.Loops.{least-append}
 

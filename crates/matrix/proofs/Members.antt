@@ -7,7 +7,7 @@ use native.Mathlib.Omega.{arith}
 use lib.ListN.{length, getD}
 use lib.Dec.{eqb}
 use borrow.Author.Tests.{eqb-true, ne-eqb}
-use Rattle.rules.specs.Lists.{on, member, total}
+use Rattle.node.specs.Lists.{on, member, total}
 use Rattle.rules.proofs.Members.{here, there}
 use Rattle.rules.proofs.Sums.{total-zero, total-le, total-add}
 

@@ -6,11 +6,11 @@ use mathlib.Core.List.{List}
 use Prim.Native.Nat.{ℕ, _+_, _-_, _≤_, _<_}
 use native.Mathlib.Omega.{arith}
 use lib.ListN.{length, getD, length-take, length-drop}
-use Rattle.rules.specs.Lists.{on, total}
-use Rattle.rules.specs.Instance.{Instance, width, columns, body, span, covers}
+use Rattle.node.specs.Lists.{on, total}
+use Rattle.node.specs.Instance.{Instance, width, columns, body, span, covers}
 use Rattle.rules.proofs.Members.{kept, upto-lt}
 use Rattle.rules.proofs.Sums.{total-cong, total-le, total-swap, length-keep}
-use Rattle.matrix.specs.Stored.{Small, Part, rowColumns}
+use Rattle.node.specs.Stored.{Small, Part, rowColumns}
 use Rattle.matrix.specs.Build.{Body}
 use Rattle.matrix.proofs.Members.{member-at, members-le}
 

@@ -5,11 +5,11 @@ use mathlib.Core.List.{List, [], _∷_, _++_}
 use Prim.Native.Nat.{ℕ, _+_, _*_, _-_, _≤_, _<_}
 use lib.ListN.{length, getD, set, take, drop, replicate}
 use lib.Dec.{eqb, ltb}
-use Rattle.rules.specs.Lists.{on, keep, upto}
-use Rattle.rules.specs.Instance.{Instance, width, covers}
+use Rattle.node.specs.Lists.{on, keep, upto}
+use Rattle.node.specs.Instance.{Instance, width, covers}
 use Rattle.dutyfile.specs.File.{sum}
 use Rattle.matrix.specs.declared.RowLists.{RowLists}
-use Rattle.matrix.specs.Stored.{ByColumn, Part}
+use Rattle.node.specs.Stored.{ByColumn, Part}
 
 -- an instance has so many rows and columns
 pub record Counts (p : Instance) (rows columns : ℕ) : Type 0 where

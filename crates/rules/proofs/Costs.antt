@@ -7,10 +7,10 @@ use native.Mathlib.Omega.{arith}
 use lib.ListN.{getD}
 use lib.Dec.{eqb}
 use borrow.Author.Tests.{eqb-true}
-use Rattle.rules.specs.declared.Node.{Node}
-use Rattle.rules.specs.Lists.{on, total}
-use Rattle.rules.specs.Instance.{Instance, FitsNode, width, covers, price}
-use Rattle.rules.specs.Node.{isFree, isTaken, costAt, root, take, leave}
+use Rattle.node.specs.declared.Node.{Node}
+use Rattle.node.specs.Lists.{on, total}
+use Rattle.node.specs.Instance.{Instance, FitsNode, width, covers, price}
+use Rattle.node.specs.Node.{isFree, isTaken, costAt, root, take, leave}
 use Rattle.rules.specs.Reduce.{lower}
 use Rattle.rules.specs.Tree.{joined}
 use Rattle.rules.specs.Identity.{Completion, rest, Identity}

@@ -9,10 +9,10 @@ use native.Mathlib.Omega.{arith}
 use lib.ListN.{length}
 use lib.Dec.{eqb}
 use borrow.Author.Tests.{eqb-true, eq-eqb}
-use Rattle.rules.specs.declared.Node.{Node}
-use Rattle.rules.specs.Lists.{member, first}
-use Rattle.rules.specs.Instance.{Instance, FitsNode, width}
-use Rattle.rules.specs.Node.{freeOf, openRows, take}
+use Rattle.node.specs.declared.Node.{Node}
+use Rattle.node.specs.Lists.{member, first}
+use Rattle.node.specs.Instance.{Instance, FitsNode, width}
+use Rattle.node.specs.Node.{freeOf, openRows, take}
 use Rattle.rules.specs.Force.{Asked, dead, forced, settled, rowsWith, askedBy, asked, Forced, forceOn, forceBy, force}
 use Rattle.rules.specs.Identity.{Completion}
 use Rattle.rules.proofs.Members.{so, here, member-cases, kept, member-keep}

@@ -8,7 +8,7 @@ use native.Mathlib.Numerals.{add-one}
 use native.Mathlib.Omega.{arith}
 use lib.ListN.{length, getD, length-map}
 use lib.Seq.{ext-getD}
-use Rattle.rules.specs.Lists.{keep, from, upto, table, pick, leastFrom, least}
+use Rattle.node.specs.Lists.{keep, from, upto, table, pick, leastFrom, least}
 use Rattle.rules.proofs.Members.{at-table, length-from}
 
 -- a list is a table if its entries are

@@ -8,10 +8,10 @@ use native.Mathlib.Omega.{arith}
 use lib.ListN.{length, getD}
 use lib.Dec.{ltb}
 use borrow.Author.Tests.{eqb-true, lt-ltb}
-use Rattle.rules.specs.declared.Node.{Node}
-use Rattle.rules.specs.Lists.{keep, upto, member, isEmpty, on, total}
-use Rattle.rules.specs.Instance.{Instance, FitsNode, width, covers, meets, count, IsPlan, chosen, columns}
-use Rattle.rules.specs.Node.{mark, isFree, isTaken, isOpen, costAt, root}
+use Rattle.node.specs.declared.Node.{Node}
+use Rattle.node.specs.Lists.{keep, upto, member, isEmpty, on, total}
+use Rattle.node.specs.Instance.{Instance, FitsNode, width, covers, meets, count, IsPlan, chosen, columns}
+use Rattle.node.specs.Node.{mark, isFree, isTaken, isOpen, costAt, root}
 use Rattle.rules.specs.Identity.{Completion, rest}
 use Rattle.rules.proofs.Members.{and-both, not-so, here, kept, member-keep, member-upto, upto-lt, at-table}
 use Rattle.rules.proofs.Sums.{total-add, total-mul, total-zero, total-two, total-le, total-one, total-ones, total-swap}

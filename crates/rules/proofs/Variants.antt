@@ -5,9 +5,9 @@ use mathlib.Core.Bool.{Bool, true, false}
 use Prim.Native.Nat.{ℕ, _+_, _≤_, _<_}
 use native.Mathlib.Omega.{arith}
 use lib.ListN.{length}
-use Rattle.rules.specs.declared.Node.{Node}
-use Rattle.rules.specs.Instance.{Instance, FitsNode, IsPlan, chosen}
-use Rattle.rules.specs.Node.{freeColumns, freeOf, taken, take, leave}
+use Rattle.node.specs.declared.Node.{Node}
+use Rattle.node.specs.Instance.{Instance, FitsNode, IsPlan, chosen}
+use Rattle.node.specs.Node.{freeColumns, freeOf, taken, take, leave}
 use Rattle.rules.specs.Force.{Forced, force}
 use Rattle.rules.specs.Tree.{Variant}
 use Rattle.rules.specs.Identity.{Completion}

@@ -4,10 +4,10 @@ use mathlib.Core.List.{List, [], _∷_}
 use Prim.Native.Nat.{ℕ, zero, suc}
 use lib.ListN.{length}
 use lib.Dec.{eqb}
-use Rattle.rules.specs.declared.Node.{Node}
-use Rattle.rules.specs.Lists.{keep, first}
-use Rattle.rules.specs.Instance.{Instance, width}
-use Rattle.rules.specs.Node.{freeOf, openRows, take}
+use Rattle.node.specs.declared.Node.{Node}
+use Rattle.node.specs.Lists.{keep, first}
+use Rattle.node.specs.Instance.{Instance, width}
+use Rattle.node.specs.Node.{freeOf, openRows, take}
 
 -- what the open rows ask of a node: one has no free column; none of these, and one has this column only; or all have two and more
 pub data Asked : Type 0 where

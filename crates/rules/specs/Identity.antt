@@ -2,10 +2,10 @@
 use mathlib.Core.Path.{_≡_}
 use mathlib.Core.Bool.{Bool, false, _&&_}
 use Prim.Native.Nat.{ℕ, _+_, _<_}
-use Rattle.rules.specs.declared.Node.{Node}
-use Rattle.rules.specs.Lists.{on, total}
-use Rattle.rules.specs.Instance.{Instance, width, price, IsPlan}
-use Rattle.rules.specs.Node.{isFree, isTaken, costAt}
+use Rattle.node.specs.declared.Node.{Node}
+use Rattle.node.specs.Lists.{on, total}
+use Rattle.node.specs.Instance.{Instance, width, price, IsPlan}
+use Rattle.node.specs.Node.{isFree, isTaken, costAt}
 
 -- X is a plan that agrees with the node: it has the taken columns and, besides, free ones only
 pub record Completion (p : Instance) (s : Node) (X : ℕ → Bool) : Type 0 where

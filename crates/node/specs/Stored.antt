@@ -5,8 +5,8 @@ use mathlib.Core.Bool.{true}
 use mathlib.Core.List.{List}
 use Prim.Native.Nat.{ℕ, _+_, _-_, _≤_, _<_}
 use lib.ListN.{length, getD, take, drop}
-use Rattle.rules.specs.Lists.{keep, member, total}
-use Rattle.rules.specs.Instance.{Instance, FitsNode, width, columns, body, span, covers}
+use Rattle.node.specs.Lists.{keep, member, total}
+use Rattle.node.specs.Instance.{Instance, FitsNode, width, columns, body, span, covers}
 
 -- what the instance of an accepted file keeps to
 pub record Small (p : Instance) : Type 0 where

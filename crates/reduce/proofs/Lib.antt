@@ -1,5 +1,0 @@
-mod Lowered
-mod Looped
-mod Filled
-mod Called
-pub mod Prices

@@ -1,3 +1,0 @@
-pub mod Lower
-pub mod Done
-pub mod Answer
