@@ -14,7 +14,7 @@ use Rattle.node.specs.Lists.{keep, from, pick}
 use Rattle.node.specs.Instance.{Instance}
 use Rattle.node.specs.Node.{isOpen, freeColumns, freeOf, openRows}
 use Rattle.rules.specs.Reduce.{leastOf, candidates, candidate, precedes, rowFirst}
-use Rattle.rules.proofs.Loops.{from-next}
+use Rattle.node.proofs.Loops.{from-next}
 use Rattle.node.specs.Stored.{ByRow}
 use Rattle.candidates.specs.Row.{view}
 use Rattle.candidates.specs.Best.{none, better, bestIn, bestOf, SomeRows}

@@ -12,10 +12,10 @@ use Rattle.node.specs.Lists.{keep, member, least}
 use Rattle.node.specs.Instance.{Instance, width, columns, span, covers}
 use Rattle.node.specs.Node.{isFree, costAt, freeColumns, freeOf}
 use Rattle.rules.specs.Reduce.{leastOf, candidate}
-use Rattle.rules.proofs.Members.{kept, upto-lt, keep-upto}
+use Rattle.node.proofs.Members.{kept, upto-lt, keep-upto}
 use Rattle.rules.proofs.Sums.{total-one}
 use Rattle.node.specs.Stored.{partAt, rowColumns, ByRow}
-use Rattle.matrix.proofs.Parts.{row-column}
+use Rattle.node.proofs.Parts.{row-column}
 use Rattle.candidates.specs.Row.{view, tallyAt, tally, spanIn, tallyIn, Listed}
 use Rattle.candidates.proofs.Keep.{keep-swap, least-cong}
 

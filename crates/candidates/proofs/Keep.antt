@@ -6,8 +6,8 @@ use Prim.Native.Nat.{ℕ, _<_, min}
 use native.Mathlib.Omega.{arith}
 use lib.ListN.{length}
 use Rattle.node.specs.Lists.{keep, member, least}
-use Rattle.rules.proofs.Members.{here, there, least-mono}
-use Rattle.rules.proofs.Loops.{least-append}
+use Rattle.node.proofs.Members.{here, there, least-mono}
+use Rattle.node.proofs.Loops.{least-append}
 
 pub keep-swap : (t u : ℕ → Bool) (xs : List ℕ) → keep t (keep u xs) ≡ keep u (keep t xs)
 unfolding keep

@@ -12,7 +12,7 @@ use Rattle.refusals.specs.Refusals.{fine}
 use Rattle.refusals.proofs.Laws.{both, asked}
 use Rattle.node.specs.Lists.{member}
 use Rattle.node.specs.Instance.{Instance, width, body, span}
-use Rattle.rules.proofs.Members.{member-cases, and-both}
+use Rattle.node.proofs.Members.{member-cases, and-both}
 use Rattle.rules.proofs.Sums.{total-cong}
 use Rattle.dutyfile.specs.declared.Entry.{Entry}
 use Rattle.dutyfile.specs.File.{rowsIn, columnsIn, bodiesAt, entryOf, entries, costOf, sizeOf, parse, sum, bodies, instance, shape}

@@ -1,7 +1,7 @@
 -- A row's columns: those that are left to look at, written from the present place on, give what all of them give.
 use mathlib.Core.Path.{_≡_, ap, sym, _∙_}
 use mathlib.Core.List.{List, [], _∷_}
-use Prim.Native.Nat.{ℕ, suc, _+_, _-_, _≤_, _<_}
+use Prim.Native.Nat.{ℕ, _+_, _-_, _≤_, _<_}
 use native.Mathlib.Nat.{sub-zero}
 use native.Mathlib.Numerals.{add-one}
 use native.Mathlib.Omega.{arith}
@@ -9,7 +9,7 @@ use lib.ListN.{length, getD, set}
 use lib.Seq.{sets}
 use borrow.Author.Tests.{eq-eqb, ne-eqb}
 use Rattle.node.specs.Lists.{keep, from}
-use Rattle.rules.proofs.Loops.{from-next}
+use Rattle.node.proofs.Loops.{from-next}
 use Rattle.matrix.specs.Build.{place, markedIn, marksOf}
 
 -- the columns from j on that are marked in a row

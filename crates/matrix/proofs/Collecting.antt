@@ -14,7 +14,8 @@ use Rattle.node.specs.Instance.{Instance, body}
 use Rattle.rules.proofs.Sums.{total-cong}
 use Rattle.node.specs.Stored.{Small, Part, rowColumns, ByColumn, ByRow}
 use Rattle.matrix.specs.Build.{Counts, Covers, marksOf, Rows}
-use Rattle.matrix.proofs.Parts.{part-length, rows-full}
+use Rattle.node.proofs.Parts.{part-length}
+use Rattle.matrix.proofs.Parts.{rows-full}
 use Rattle.matrix.proofs.Covered.{marks-row}
 
 total-mono : (f : ℕ → ℕ) (k n : ℕ) → k ≤ n → total k f ≤ total n f

@@ -10,7 +10,7 @@ use lib.Seq.{getD-append-add, getD-drop}
 use lib.Dec.{ltb}
 use borrow.Author.Tests.{ltb-true, ltb-false}
 use Rattle.node.specs.Lists.{on, table}
-use Rattle.rules.proofs.Loops.{table-ext}
+use Rattle.node.proofs.Loops.{table-ext}
 use Rattle.node.specs.Instance.{Instance}
 use Rattle.node.specs.Node.{root}
 use Rattle.matrix.specs.Build.{Counts, ones}

@@ -29,10 +29,6 @@ unfoldable pub marked : ℕ → List ℕ → List ℕ → List ℕ
 marked j [] cover = cover
 marked j (r ∷ rs) cover = marked j rs (set cover (place (r - 1) j) 1)
 
--- the rows of a body are rows of the table
-abbrev pub Body : List ℕ → Type 0
-Body rs = (k : ℕ) → k < length rs → (1 ≤ getD rs k 0) × (getD rs k 0 ≤ 64)
-
 -- the table says which row is covered by which of the first n columns
 abbrev pub Covers : Instance → ℕ → List ℕ → Type 0
 Covers p n cover = (i j : ℕ) → i < 64 → j < 256 → getD cover (place i j) 0 ≡ on (ltb j n && covers p i j) 1

@@ -8,8 +8,8 @@ ghost use Rattle.node.specs.Lists.{total, table};
 ghost use Rattle.node.specs.Instance.{Instance};
 ghost use Rattle.node.specs.Node.{root};
 ghost use Rattle.dutyfile.specs.File.{sum};
-ghost use Rattle.node.specs.Stored.{ByColumn, ByRow};
-ghost use Rattle.matrix.specs.Build.{Counts, Starts, Body, marked, Covers, marksOf, Rows, SomeColumns, ones};
+ghost use Rattle.node.specs.Stored.{Body, ByColumn, ByRow};
+ghost use Rattle.matrix.specs.Build.{Counts, Starts, marked, Covers, marksOf, Rows, SomeColumns, ones};
 
 // Places for the starts, all 0.
 fn no_starts() -> [u16; 257]

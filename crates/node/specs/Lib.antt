@@ -3,3 +3,4 @@ pub mod Lists
 pub mod Instance
 pub mod Node
 pub mod Stored
+pub mod Taking

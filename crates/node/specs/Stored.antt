@@ -26,6 +26,10 @@ pub record Part (starts l : List ℕ) (k : ℕ) (part : List ℕ) : Type 0 where
   pub inside : getD starts (k + 1) 0 ≤ length l
   pub is : partAt starts l k ≡ part
 
+-- the row numbers of a body are those of a node's rows
+abbrev pub Body : List ℕ → Type 0
+Body rs = (k : ℕ) → k < length rs → (1 ≤ getD rs k 0) × (getD rs k 0 ≤ 64)
+
 -- the columns that cover row i, rising
 abbrev pub rowColumns : Instance → ℕ → List ℕ
 rowColumns p i = keep (covers p i) (columns p)

@@ -14,7 +14,7 @@ use Rattle.node.specs.Node.{isFree, isTaken, costAt, root, take, leave}
 use Rattle.rules.specs.Reduce.{lower}
 use Rattle.rules.specs.Tree.{joined}
 use Rattle.rules.specs.Identity.{Completion, rest, Identity}
-use Rattle.rules.proofs.Members.{at-table}
+use Rattle.node.proofs.Members.{at-table}
 use Rattle.rules.proofs.Sums.{total-cong, total-add, total-add-le, total-at}
 use Rattle.rules.proofs.Plans.{Open, Free, FreeIn, Sound, rest-row, not-both, root-sound, root-free, root-cost, comp-same}
 use Rattle.rules.proofs.Plans.{sound-same}

@@ -9,7 +9,7 @@ use Rattle.node.specs.Lists.{on, total, upto}
 use Rattle.node.specs.Instance.{Instance, width, covers, count}
 use Rattle.node.specs.Node.{mark, isFree, isTaken, isOpen, freeColumns}
 use Rattle.rules.specs.Identity.{Completion}
-use Rattle.rules.proofs.Members.{keep-lt, member-upto, upto-lt}
+use Rattle.node.proofs.Members.{keep-lt, member-upto, upto-lt}
 use Rattle.rules.proofs.Sums.{total-add}
 use Rattle.rules.proofs.Plans.{Free, FreeIn, Sound, not-taken, not-both}
 

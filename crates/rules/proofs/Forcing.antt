@@ -15,7 +15,7 @@ use Rattle.node.specs.Instance.{Instance, FitsNode, width}
 use Rattle.node.specs.Node.{freeOf, openRows, take}
 use Rattle.rules.specs.Force.{Asked, dead, forced, settled, rowsWith, askedBy, asked, Forced, forceOn, forceBy, force}
 use Rattle.rules.specs.Identity.{Completion}
-use Rattle.rules.proofs.Members.{so, here, member-cases, kept, member-keep}
+use Rattle.node.proofs.Members.{so, here, member-cases, kept, member-keep}
 use Rattle.rules.proofs.Plans.{Open, Free, FreeIn, Sound}
 use Rattle.rules.proofs.Steps.{take-comp, take-less}
 use Rattle.rules.proofs.Rows.{size, size-fits, open-in, in-open, free-in, in-free, some-free}

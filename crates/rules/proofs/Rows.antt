@@ -10,7 +10,7 @@ use Rattle.node.specs.Lists.{on, keep, upto, member}
 use Rattle.node.specs.Instance.{Instance, width, covers}
 use Rattle.node.specs.Node.{isFree, isOpen, freeColumns, freeOf, openRows}
 use Rattle.rules.specs.Identity.{Completion}
-use Rattle.rules.proofs.Members.{kept, member-keep, member-upto, upto-lt, keep-upto}
+use Rattle.node.proofs.Members.{kept, member-keep, member-upto, upto-lt, keep-upto}
 use Rattle.rules.proofs.Sums.{total-zero}
 use Rattle.rules.proofs.Plans.{Open, FreeIn, Sound, rest-once}
 

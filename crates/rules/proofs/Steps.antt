@@ -12,7 +12,7 @@ use Rattle.node.specs.Lists.{on}
 use Rattle.node.specs.Instance.{Instance, FitsNode, width, covers, meets}
 use Rattle.node.specs.Node.{mark, isFree, isTaken, isOpen, freeColumns, take, leave}
 use Rattle.rules.specs.Identity.{Completion}
-use Rattle.rules.proofs.Members.{at-table}
+use Rattle.node.proofs.Members.{at-table}
 use Rattle.rules.proofs.Sums.{total-cong, total-zero, total-at}
 use Rattle.rules.proofs.Plans.{Free, FreeIn, Sound, not-both, apart, clash}
 use Rattle.rules.proofs.Decide.{Decided, stays, goes, joins, gained, redo, undo, decided-sound, still-free, decided-less}

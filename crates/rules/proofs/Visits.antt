@@ -17,8 +17,8 @@ use Rattle.rules.specs.Tree.{Variant, Penalty, just, most, penaltyOf, pl
 use Rattle.rules.specs.Tree.{columnBefore, branchOn, reduced, living, visitBy, visit}
 use Rattle.rules.specs.Identity.{Completion}
 use Rattle.rules.proofs.Walks.{Lawful, reaches-true, at-most-le}
-use Rattle.rules.proofs.Members.{not-so, member-cases, kept, member-keep, member-upto, upto-lt, keep-cong, pick-member}
-use Rattle.rules.proofs.Members.{least-le, keep-short}
+use Rattle.node.proofs.Members.{not-so, member-cases, kept, member-keep, member-upto, upto-lt, keep-cong, pick-member}
+use Rattle.node.proofs.Members.{least-le, keep-short}
 use Rattle.rules.proofs.Sums.{total-cong}
 use Rattle.rules.proofs.Plans.{Open, FreeIn, not-taken}
 use Rattle.rules.proofs.Steps.{take-comp, take-less, leave-comp, leave-out, unleave, leave-less}

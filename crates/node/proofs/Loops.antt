@@ -8,8 +8,8 @@ use native.Mathlib.Numerals.{add-one}
 use native.Mathlib.Omega.{arith}
 use lib.ListN.{length, getD, length-map}
 use lib.Seq.{ext-getD}
 use Rattle.node.specs.Lists.{keep, from, upto, table, pick, leastFrom, least}
-use Rattle.rules.proofs.Members.{at-table, length-from}
+use Rattle.node.proofs.Members.{at-table, length-from}
 
 -- a list is a table if its entries are
 pub table-ext : (n : ℕ) (f : ℕ → ℕ) (l : List ℕ) → length l ≡ n → ((k : ℕ) → k < n → getD l k 0 ≡ f k) → l ≡ table n f
