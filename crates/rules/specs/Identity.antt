@@ -19,3 +19,7 @@ rest p s X f = total (width p) (λ k. on (isFree s k && X k) (f k))
 -- every plan that agrees with the node costs its lower bound and the present costs of its free columns
 abbrev pub Identity : Instance → Node → Type 0
 Identity p s = (X : ℕ → Bool) → Completion p s X → price p X ≡ s .bound + rest p s X (costAt s)
+
+-- the bound, and the present costs of the free columns
+abbrev pub ceiling : Instance → Node → ℕ
+ceiling p s = s .bound + total (width p) (λ k. on (isFree s k) (costAt s k))
