@@ -90,6 +90,17 @@ module _ (p : Instance) (s : Node) where
   unfolding asked rowsWith with-free
   asked-is = follow-settled (openRows p s)
 
+sooner-dead : (a : Asked) → sooner a Dead ≡ Dead
+unfolding sooner
+sooner-dead Dead = refl
+sooner-dead (Take j) = refl
+sooner-dead Settled = refl
+
+-- what row i asks, for every instance that is kept so
+abbrev pub Tells : List ℕ → List ℕ → List ℕ → ℕ → Asked → Type 0
+Tells heads entries column i next =
+    (p : Instance) (starts : List ℕ) (s : Node) → s .column ≡ column → ByRow p starts heads entries → i < p .rows → next ≡ asksBy (freeOf p s i)
+
 -- the open rows from i on
 abbrev pub openFrom : ℕ → Node → ℕ → List ℕ
 openFrom rows s i = keep (isOpen s) (from (rows - i) i)
@@ -113,8 +124,7 @@ module _ (column row : List ℕ) (rows : ℕ) (heads entries : List ℕ) (found 
     asking-row = let k = w .some in record { p = k .p; starts = k .starts; kept = k .kept; row = omega (arith, k .rows-is) }
 
     pub asking-open : getD row i 0 ≡ 1 → (next out : Asked) →
-        ((p : Instance) (starts : List ℕ) (s : Node) → s .column ≡ column → ByRow p starts heads entries → i < p .rows → next ≡ asksBy (freeOf p s i)) →
-        out ≡ sooner found next → Asking column row rows heads entries out (i + 1)
+        Tells heads entries column i next → out ≡ sooner found next → Asking column row rows heads entries out (i + 1)
     unfolding keep follow
     asking-open h next out told is = record {
       some = w .some;
@@ -123,6 +133,18 @@ module _ (column row : List ℕ) (rows : ℕ) (heads entries : List ℕ) (found 
           let o : openFrom rows s i ≡ i ∷ openFrom rows s (i + 1) = rw (from-next rows i inside, re, eq-eqb (getD row i 0) 1 h) in
           rw (is, told p starts s ce k (omega arith)) (sym (ap (follow p s found) o) ∙ w .left p starts s ce re e k);
     }
+
+    -- a row without a free column decides
+    pub asking-dead : getD row i 0 ≡ 1 → (next : Asked) → Tells heads entries column i next → next ≡ Dead →
+        (p : Instance) (starts : List ℕ) (s : Node) → s .column ≡ column → s .row ≡ row → rows ≡ p .rows → ByRow p starts heads entries →
+        Dead ≡ asked p s
+    unfolding keep follow
+    asking-dead h next told is p starts s ce re e k =
+        let o : openFrom rows s i ≡ i ∷ openFrom rows s (i + 1) = rw (from-next rows i inside, re, eq-eqb (getD row i 0) 1 h) in
+        let d : asksBy (freeOf p s i) ≡ Dead = sym (told p starts s ce k (omega arith)) ∙ is in
+        sym (follow-dead p s (openFrom rows s (i + 1)))
+        ∙ ap (λ (a : Asked). follow p s a (openFrom rows s (i + 1))) (sym (ap (sooner found) d ∙ sooner-dead found))
+        ∙ sym (ap (follow p s found) o) ∙ w .left p starts s ce re e k
 
     pub asking-closed : (getD row i 0 ≡ 1 → ⊥) → Asking column row rows heads entries found (i + 1)
     unfolding keep

@@ -2,26 +2,22 @@
 use mathlib.Core.Path.{_≡_, refl, ap, sym, _∙_}
 use mathlib.Core.List.{List, [], _∷_}
 use Prim.Native.Nat.{ℕ, _+_, _≤_, _<_}
-use native.Mathlib.Numerals.{add-one}
 use native.Mathlib.Omega.{arith}
 use lib.ListN.{length, getD, drop, drop-of-length-le}
-use lib.Seq.{drop-cons}
 use borrow.Author.Tests.{eq-eqb, ne-eqb}
 use Rattle.node.specs.Lists.{keep, first}
+use Rattle.node.proofs.Loops.{drop-step}
 use Rattle.rules.specs.declared.Asked.the-variants.{Dead, Take, Settled}
 use Rattle.forcing.specs.Rows.{freeIn, asksBy}
 
 module _ (column js : List ℕ) (k : ℕ) (inside : k < length js) where
-  step : drop k js ≡ getD js k 0 ∷ drop (k + 1) js
-  step = rw (add-one k) (drop-cons js k 0 inside)
-
   free-step : getD column (getD js k 0) 0 ≡ 1 → freeIn column (drop k js) ≡ getD js k 0 ∷ freeIn column (drop (k + 1) js)
   unfolding keep
-  free-step h = rw (step, eq-eqb (getD column (getD js k 0) 0) 1 h)
+  free-step h = rw (drop-step js k inside, eq-eqb (getD column (getD js k 0) 0) 1 h)
 
   other-step : (getD column (getD js k 0) 0 ≡ 1 → ⊥) → freeIn column (drop k js) ≡ freeIn column (drop (k + 1) js)
   unfolding keep
-  other-step h = rw (step, ne-eqb (getD column (getD js k 0) 0) 1 h)
+  other-step h = rw (drop-step js k inside, ne-eqb (getD column (getD js k 0) 0) 1 h)
 
 none-left : (column js : List ℕ) (k : ℕ) → length js ≤ k → freeIn column (drop k js) ≡ []
 unfolding keep

@@ -38,10 +38,10 @@ fn first_free(column: &[u8; 256], columns: &[u8]) -> usize
 {
     let mut k = 0;
     while k < columns.len() {
-        let j = columns[k] as usize;
+        let found = columns[k] as usize;
         k += 1;
-        if column[j] == 1 {
-            return j;
+        if column[found] == 1 {
+            return found;
         }
     }
     0
@@ -106,6 +106,9 @@ pub fn open_rows_ask<'a>(
         i += 1;
         if row[at] == 1 {
             let next = row_asks(column, heads, entries, at);
+            if let Asked::Dead = next {
+                return Asked::Dead;
+            }
             found = sooner_of(found, next);
         }
     }

@@ -5,10 +5,9 @@ use mathlib.Core.Bool.{Bool, true, false, cond, _&&_, _||_, false≢true, or-tru
 use mathlib.Core.List.{List, [], _∷_}
 use mathlib.Core.Logic.{⊎-elim}
 use Prim.Native.Nat.{ℕ, suc, _+_, _-_, _≤_, _<_}
-use native.Mathlib.Numerals.{add-one}
 use native.Mathlib.Omega.{arith}
 use lib.ListN.{length, getD, set, drop, length-set, drop-of-length-le, List·getD-eq-default}
-use lib.Seq.{drop-cons, getD-set-same, getD-set-other}
+use lib.Seq.{getD-set-same, getD-set-other}
 use lib.Dec.{eqb, ltb}
 use borrow.Author.Tests.{eqb-true, eqb-false, eq-eqb, ne-eqb, ltb-true, ltb-false}
 use Rattle.node.specs.declared.Node.{Node}
@@ -18,12 +17,9 @@ use Rattle.node.specs.Node.{mark, isFree, costAt, take, leave}
 use Rattle.node.specs.Stored.{Body, Part, partAt, ByColumn, ByRow}
 use Rattle.node.specs.Taking.{closed, dropped, allDropped, rowsDropped, RowParts, Takes}
 use Rattle.node.proofs.Members.{and-both, here, there, member-at, member-cases, member-keep, member-upto}
-use Rattle.node.proofs.Loops.{table-ext}
+use Rattle.node.proofs.Loops.{table-ext, drop-step}
 use Rattle.node.proofs.Shares.{meets-at, meets-of}
 use Rattle.node.proofs.Parts.{body-rows}
-
-drop-step : (l : List ℕ) (k : ℕ) → k < length l → drop k l ≡ getD l k 0 ∷ drop (k + 1) l
-drop-step l k h = rw (add-one k) (drop-cons l k 0 h)
 
 -- a place of a list with one place set
 set-at : (l : List ℕ) (n j v k : ℕ) → length l ≡ n → k < n → getD (set l j v) k 0 ≡ cond (eqb k j) v (getD l k 0)
@@ -148,6 +144,14 @@ gone-twice a b x = go a (eqb x 1) refl
     go true false e = rw e
     go false false e = rw e
 
+gone-not : (x : ℕ) → x ≡ gone false x
+unfolding gone
+gone-not x = go (eqb x 1)
+  where
+    go : (t : Bool) → x ≡ cond (t && false) 0 x
+    go true = refl
+    go false = refl
+
 length-dropped : (j : ℕ) (column : List ℕ) → length (dropped j column) ≡ length column
 unfolding dropped
 length-dropped j column = go (eqb (getD column j 0) 1)
@@ -163,30 +167,14 @@ dropped-at j column l k b = go (eqb (getD column j 0) 1) refl (eqb k j) refl
     go : (c : Bool) → eqb (getD column j 0) 1 ≡ c → (d : Bool) → eqb k j ≡ d →
         getD (cond c (set column j 0) column) k 0 ≡ cond (eqb (getD column k 0) 1 && d) 0 (getD column k 0)
     go true e true f = rw (set-at column 256 j 0 k l b, f, eqb-true k j f, e)
-    go true e false f = rw (set-at column 256 j 0 k l b, f) (keeps (eqb (getD column k 0) 1))
-      where
-        keeps : (t : Bool) → getD column k 0 ≡ cond (t && false) 0 (getD column k 0)
-        keeps true = refl
-        keeps false = refl
+    go true e false f = rw (set-at column 256 j 0 k l b, f) (gone-not (getD column k 0))
     go false e true f = rw (eqb-true k j f, e)
-    go false e false f = keeps (eqb (getD column k 0) 1)
-      where
-        keeps : (t : Bool) → getD column k 0 ≡ cond (t && false) 0 (getD column k 0)
-        keeps true = refl
-        keeps false = refl
+    go false e false f = gone-not (getD column k 0)
 
 length-all : (js column : List ℕ) → length (allDropped js column) ≡ length column
 unfolding allDropped
 length-all [] column = refl
 length-all (j ∷ js) column = length-all js (dropped j column) ∙ length-dropped j column
-
-gone-not : (x : ℕ) → x ≡ gone false x
-unfolding gone
-gone-not x = go (eqb x 1)
-  where
-    go : (t : Bool) → x ≡ cond (t && false) 0 x
-    go true = refl
-    go false = refl
 
 all-at : (js column : List ℕ) → length column ≡ 256 → (k : ℕ) → k < 256 → getD (allDropped js column) k 0 ≡ gone (member k js) (getD column k 0)
 unfolding allDropped member
@@ -306,9 +294,6 @@ left-is s j l =
 module _ (s : Node) (j : ℕ) (starts numbers heads entries : List ℕ) (t : Takes s j starts numbers heads entries) where
   pub taken-part : Part starts numbers j (body (t .p) j)
   taken-part = t .by-column .column j (t .column)
-
-  pub taken-few : j < 256
-  taken-few = omega (arith, t .column, t .by-row .small .fits .wide)
 
   pub taken-body : Body (partAt starts numbers j)
   taken-body = rw (taken-part .is) (body-rows (t .p) (t .by-row .small) j (t .column))

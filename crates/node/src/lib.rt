@@ -81,7 +81,8 @@ impl Node {
         close_rows(&mut n.row, &numbers[start..end]);
         drop_rows(&mut n.column, &numbers[start..end], heads, entries);
         n.column[j] = 2;
-        n.bound = self.bound + self.cost[j];
+        let bound = self.bound + self.cost[j];
+        n.bound = bound;
         n
     }
 

@@ -15,11 +15,11 @@ abbrev μ-loop : tie.MeasureT-loop
 loop-holds : tie.Need-loop-holds Inv-loop μ-loop
 loop-holds c = seeking-start _ _
 
-shared-slice-read-j : tie.Need-shared-slice-read-j Inv-loop μ-loop
-shared-slice-read-j c = omega arith
+shared-slice-read-found : tie.Need-shared-slice-read-found Inv-loop μ-loop
+shared-slice-read-found c = omega arith
 
-cast-j : tie.Need-cast-j Inv-loop μ-loop
-cast-j c = omega (arith, c .shared-slice-known .given (c .before .before .loop .k))
+cast-found : tie.Need-cast-found Inv-loop μ-loop
+cast-found c = omega (arith, c .shared-slice-known .given (c .before .before .loop .k))
 
 add-k : tie.Need-add-k Inv-loop μ-loop
 add-k c = omega arith
@@ -50,8 +50,8 @@ first-free-spec =
     Inv-loop
     μ-loop
     loop-holds
-    shared-slice-read-j
-    cast-j
+    shared-slice-read-found
+    cast-found
     add-k
     element-copy-out-if1
     returns

@@ -2,7 +2,7 @@
 use Prim.Native.Nat.{_-_}
 use native.Mathlib.Omega.{arith}
 use borrow.Author.Needs.{needs}
-use Rattle.forcing.proofs.Asking.{Asking, asking-start, asking-row, row-few, asking-open, asking-closed, asking-end}
+use Rattle.forcing.proofs.Asking.{Asking, asking-start, asking-row, row-few, asking-dead, asking-open, asking-closed, asking-end}
 use Rattle.forcing.proofs.open_rows_ask.Statement.{statement}
 use Rattle.forcing.proofs.open_rows_ask.Tie as tie
 
@@ -24,16 +24,26 @@ element-copy-out-if1 c = row-few _ _ _ (asking-row _ _ _ _ _ _ _ (c .before .loo
 row-asks-requires : tie.Need-row-asks-requires Inv-loop μ-loop
 row-asks-requires c κs = asking-row _ _ _ _ _ _ _ (c .before .before .before .loop .inv) (c .before .before .loop-test .taken)
 
+enum-told : tie.Need-enum-told Inv-loop μ-loop
+enum-told c = search needs
+
+returns : tie.Need-returns Inv-loop μ-loop
+returns c =
+    let a = c .before .before in
+    let l = a .before .before .before in
+    asking-dead _ _ _ _ _ _ _ (l .before .loop .inv) (l .loop-test .taken) (a .before .if1 .taken) _ (a .row-asks .ensures) (c .enum-told .given .1)
+
 sooner-of-requires : tie.Need-sooner-of-requires Inv-loop μ-loop
 sooner-of-requires c κs = search needs
 
 loop-less : tie.Need-loop-less Inv-loop μ-loop
-loop-less c = omega (arith, c .before .before .before .before .loop-test .taken)
+loop-less c = omega (arith, c .before .before .before .before .before .loop-test .taken)
 
 loop-again : tie.Need-loop-again Inv-loop μ-loop
 loop-again c =
-    let l = c .before .before .before .before in
-    asking-open _ _ _ _ _ _ _ (l .before .loop .inv) (l .loop-test .taken) (c .before .before .if1 .taken) _ _ (c .before .row-asks .ensures)
+    let a = c .before .before in
+    let l = a .before .before .before in
+    asking-open _ _ _ _ _ _ _ (l .before .loop .inv) (l .loop-test .taken) (a .before .if1 .taken) _ _ (a .row-asks .ensures)
     (c .sooner-of .ensures)
 
 loop-less-2 : tie.Need-loop-less-2 Inv-loop μ-loop
@@ -44,8 +54,8 @@ loop-again-2 c =
     let l = c .before .before in
     asking-closed _ _ _ _ _ _ _ (l .before .loop .inv) (l .loop-test .taken) (c .if1 .left)
 
-returns : tie.Need-returns Inv-loop μ-loop
-returns c = asking-end _ _ _ _ _ _ _ (c .before .loop .inv) (c .loop-test .left)
+returns-2 : tie.Need-returns-2 Inv-loop μ-loop
+returns-2 c = asking-end _ _ _ _ _ _ _ (c .before .loop .inv) (c .loop-test .left)
 
 pub open-rows-ask-spec : {M : Type 1} → statement M
 open-rows-ask-spec =
@@ -57,9 +67,11 @@ open-rows-ask-spec =
     add-i
     element-copy-out-if1
     row-asks-requires
+    enum-told
+    returns
     sooner-of-requires
     loop-less
     loop-again
     loop-less-2
     loop-again-2
-    returns)
+    returns-2)

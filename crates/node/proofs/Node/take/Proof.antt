@@ -65,14 +65,14 @@ drop-rows-requires c κs =
 element-write-n : tie.Need-element-write-n
 element-write-n c = search needs
 
-mul-n : tie.Need-mul-n
-mul-n c = search needs
+mul-bound : tie.Need-mul-bound
+mul-bound c = search needs
 
-element-copy-out-n : tie.Need-element-copy-out-n
-element-copy-out-n c = search needs
+element-copy-out-bound : tie.Need-element-copy-out-bound
+element-copy-out-bound c = search needs
 
-add-n : tie.Need-add-n
-add-n c = search needs
+add-bound : tie.Need-add-bound
+add-bound c = search needs
 
 -- the tables of the struct
 column-long : (s : tie.Start) → length (s .args .t1 .column) ≡ 256
@@ -107,7 +107,7 @@ take-spec =
     part-drop-rows-end
     drop-rows-requires
     element-write-n
-    mul-n
-    element-copy-out-n
-    add-n
+    mul-bound
+    element-copy-out-bound
+    add-bound
     returns)
