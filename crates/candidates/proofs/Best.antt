@@ -8,14 +8,14 @@ use native.Mathlib.Omega.{arith}
 use lib.ListN.{getD}
 use lib.Dec.{ltb}
 use borrow.Author.Tests.{eq-eqb, ne-eqb, ltb-true, ltb-false}
-use Rattle.rules.specs.declared.Node.{Node}
+use Rattle.node.specs.declared.Node.{Node}
 use Rattle.rules.specs.declared.Candidate.{Candidate}
-use Rattle.rules.specs.Lists.{keep, from, pick}
-use Rattle.rules.specs.Instance.{Instance}
-use Rattle.rules.specs.Node.{isOpen, freeColumns, freeOf, openRows}
+use Rattle.node.specs.Lists.{keep, from, pick}
+use Rattle.node.specs.Instance.{Instance}
+use Rattle.node.specs.Node.{isOpen, freeColumns, freeOf, openRows}
 use Rattle.rules.specs.Reduce.{leastOf, candidates, candidate, precedes, rowFirst}
-use Rattle.rules.proofs.Loops.{from-next}
-use Rattle.matrix.specs.Stored.{ByRow}
+use Rattle.node.proofs.Loops.{from-next}
+use Rattle.node.specs.Stored.{ByRow}
 use Rattle.candidates.specs.Row.{view}
 use Rattle.candidates.specs.Best.{none, better, bestIn, bestOf, SomeRows}
 

@@ -7,24 +7,19 @@ use Prim.Native.Nat.{ℕ, _<_}
 use native.Mathlib.Omega.{arith}
 use lib.ListN.{getD}
 use lib.Dec.{eqb}
-use Rattle.rules.specs.declared.Node.{Node}
-use Rattle.rules.specs.Lists.{keep, member, least}
-use Rattle.rules.specs.Instance.{Instance, width, columns, span, covers}
-use Rattle.rules.specs.Node.{isFree, costAt, freeColumns, freeOf}
+use Rattle.node.specs.declared.Node.{Node}
+use Rattle.node.specs.Lists.{keep, member, least}
+use Rattle.node.specs.Instance.{Instance, width, columns, span, covers}
+use Rattle.node.specs.Node.{isFree, costAt, freeOf}
 use Rattle.rules.specs.Reduce.{leastOf, candidate}
-use Rattle.rules.proofs.Members.{kept, upto-lt, keep-upto}
+use Rattle.node.proofs.Members.{kept, upto-lt, keep-upto}
 use Rattle.rules.proofs.Sums.{total-one}
-use Rattle.matrix.specs.Stored.{partAt, rowColumns, ByRow}
-use Rattle.matrix.proofs.Parts.{row-column}
+use Rattle.node.specs.Stored.{partAt, rowColumns, ByRow}
+use Rattle.node.proofs.Parts.{row-column, free-row}
 use Rattle.candidates.specs.Row.{view, tallyAt, tally, spanIn, tallyIn, Listed}
-use Rattle.candidates.proofs.Keep.{keep-swap, least-cong}
+use Rattle.candidates.proofs.Keep.{least-cong}
 
 module _ (p : Instance) (s : Node) (i : ℕ) where
-  -- the free columns of a row are the free ones of its columns
-  pub free-row : freeOf p s i ≡ keep (isFree s) (rowColumns p i)
-  unfolding freeOf freeColumns
-  free-row = keep-swap (covers p i) (isFree s) (columns p)
-
   tally-candidate : tally (costAt s) (span p) (freeOf p s i) i ≡ candidate p s i
   unfolding tallyAt candidate leastOf
   tally-candidate = refl

@@ -1,25 +1,13 @@
--- Lists of numbers that pass a test: two tests in either sequence, none that passes, and values that agree.
+-- Lists of numbers that pass a test: none that passes, and values that agree.
 use mathlib.Core.Path.{_≡_, refl}
-use mathlib.Core.Bool.{Bool, true, false, cond}
+use mathlib.Core.Bool.{Bool, true, false}
 use mathlib.Core.List.{List, [], _∷_, _++_}
 use Prim.Native.Nat.{ℕ, _<_, min}
 use native.Mathlib.Omega.{arith}
 use lib.ListN.{length}
-use Rattle.rules.specs.Lists.{keep, member, least}
-use Rattle.rules.proofs.Members.{here, there, least-mono}
-use Rattle.rules.proofs.Loops.{least-append}
-
-pub keep-swap : (t u : ℕ → Bool) (xs : List ℕ) → keep t (keep u xs) ≡ keep u (keep t xs)
-unfolding keep
-keep-swap t u [] = refl
-keep-swap t u (x ∷ xs) = go (t x) (u x) refl refl (keep-swap t u xs)
-  where
-    go : (a b : Bool) → t x ≡ a → u x ≡ b → keep t (keep u xs) ≡ keep u (keep t xs) →
-        keep t (cond b (x ∷ keep u xs) (keep u xs)) ≡ keep u (cond a (x ∷ keep t xs) (keep t xs))
-    go true true p q h = rw (p, q, h)
-    go true false p q h = rw (q, h)
-    go false true p q h = rw (p, h)
-    go false false p q h = h
+use Rattle.node.specs.Lists.{keep, member, least}
+use Rattle.node.proofs.Members.{here, there, least-mono}
+use Rattle.node.proofs.Loops.{least-append}
 
 pub keep-none : (t : ℕ → Bool) (xs : List ℕ) → ((k : ℕ) → member k xs ≡ true → t k ≡ false) → keep t xs ≡ []
 unfolding keep

@@ -10,9 +10,9 @@ use lib.Seq.{take-suc, take-all}
 use lib.Dec.{eqb, ltb}
 use borrow.Author.Tests.{eq-eqb, ne-eqb, lt-ltb, le-ltb, ltb-true, ltb-false, eqb-true, eqb-false}
 use Rattle.rules.specs.declared.Candidate.{Candidate}
-use Rattle.rules.specs.Lists.{keep, member, least, leastFrom}
-use Rattle.rules.proofs.Members.{member-keep, least-le, least-at, keep-short}
-use Rattle.rules.proofs.Loops.{keep-append}
+use Rattle.node.specs.Lists.{keep, member, least, leastFrom}
+use Rattle.node.proofs.Members.{member-keep, least-le, least-at, keep-short}
+use Rattle.node.proofs.Loops.{keep-append}
 use Rattle.candidates.specs.Row.{tallyAt, tally, joined, spanIn, tallyIn, Listed}
 use Rattle.candidates.proofs.Keep.{keep-none, least-more}
 

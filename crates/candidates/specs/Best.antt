@@ -4,12 +4,12 @@ use mathlib.Core.Bool.{cond}
 use mathlib.Core.List.{List, [], _∷_}
 use Prim.Native.Nat.{ℕ}
 use lib.Dec.{eqb}
-use Rattle.rules.specs.declared.Node.{Node}
+use Rattle.node.specs.declared.Node.{Node}
 use Rattle.rules.specs.declared.Candidate.{Candidate}
-use Rattle.rules.specs.Lists.{pick}
-use Rattle.rules.specs.Instance.{Instance}
+use Rattle.node.specs.Lists.{pick}
+use Rattle.node.specs.Instance.{Instance}
 use Rattle.rules.specs.Reduce.{candidates, candidate, precedes, rowFirst}
-use Rattle.matrix.specs.Stored.{ByRow}
+use Rattle.node.specs.Stored.{ByRow}
 
 -- a row with cost 0 is no candidate, and this one stands where there is none
 abbrev pub none : Candidate

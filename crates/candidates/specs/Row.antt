@@ -4,11 +4,11 @@ use mathlib.Core.List.{List}
 use Prim.Native.Nat.{ℕ, _+_, _-_, _≤_, _<_, min}
 use lib.ListN.{length, getD}
 use lib.Dec.{eqb, ltb}
-use Rattle.rules.specs.declared.Node.{Node}
+use Rattle.node.specs.declared.Node.{Node}
 use Rattle.rules.specs.declared.Candidate.{Candidate}
-use Rattle.rules.specs.Lists.{keep, least}
-use Rattle.rules.specs.Instance.{Instance}
-use Rattle.matrix.specs.Stored.{ByRow}
+use Rattle.node.specs.Lists.{keep, least}
+use Rattle.node.specs.Instance.{Instance}
+use Rattle.node.specs.Stored.{ByRow}
 
 -- the node that arrays belong to, with any bound
 abbrev pub view : List ℕ → List ℕ → List ℕ → Node

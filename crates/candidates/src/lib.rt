@@ -3,9 +3,9 @@ use rules::Candidate;
 ghost use mathlib.Core.Path.{_≡_};
 ghost use Prim.Native.Nat.{_≤_, _<_};
 ghost use mathlib.Core.List.{[]};
-ghost use Rattle.rules.specs.Instance.{Instance};
+ghost use Rattle.node.specs.Instance.{Instance};
 ghost use Rattle.rules.specs.Reduce.{candidate, precedes};
-ghost use Rattle.matrix.specs.Stored.{ByRow};
+ghost use Rattle.node.specs.Stored.{ByRow};
 ghost use Rattle.candidates.specs.Row.{view, joined, tallyIn, Listed, SomeRow};
 ghost use Rattle.candidates.specs.Best.{none, better, bestOf, SomeRows};
 

@@ -3,8 +3,8 @@ use mathlib.Core.Path.{_≡_, refl}
 use mathlib.Core.Bool.{Bool, true, false, cond}
 use mathlib.Core.List.{List, [], _∷_}
 use Prim.Native.Nat.{ℕ}
-use Rattle.rules.specs.Lists.{member, pick}
-use Rattle.rules.proofs.Members.{here}
+use Rattle.node.specs.Lists.{member, pick}
+use Rattle.node.proofs.Members.{here}
 use Rattle.choice.specs.Best.{bestIn}
 
 -- the better of the best so far and one more

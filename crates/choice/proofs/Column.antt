@@ -9,14 +9,14 @@ use native.Mathlib.Omega.{arith}
 use lib.ListN.{length, getD}
 use lib.Dec.{eqb}
 use borrow.Author.Tests.{lt-ltb}
-use Rattle.rules.specs.declared.Node.{Node}
-use Rattle.rules.specs.Lists.{keep}
-use Rattle.rules.specs.Instance.{Instance, width, columns, body, span, covers, meets}
-use Rattle.rules.specs.Node.{isFree, costAt, freeColumns}
+use Rattle.node.specs.declared.Node.{Node}
+use Rattle.node.specs.Lists.{keep}
+use Rattle.node.specs.Instance.{Instance, width, columns, body, span, covers, meets}
+use Rattle.node.specs.Node.{isFree, costAt, freeColumns}
 use Rattle.rules.specs.Tree.{sum, zeros, sharing, columnBefore}
-use Rattle.rules.proofs.Members.{kept, upto-lt, keep-short, keep-upto}
+use Rattle.node.proofs.Members.{kept, upto-lt, keep-short, keep-upto}
 use Rattle.rules.proofs.Sums.{total-one}
-use Rattle.matrix.specs.Stored.{partAt, rowColumns, ByColumn, ByRow}
+use Rattle.node.specs.Stored.{partAt, rowColumns, ByColumn, ByRow}
 use Rattle.matrix.proofs.Members.{member-at}
 use Rattle.matrix.proofs.Parts.{part-length}
 use Rattle.candidates.specs.Row.{view}

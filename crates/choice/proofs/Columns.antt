@@ -7,12 +7,12 @@ use Prim.Native.Nat.{ℕ, _+_, _≤_, _<_}
 use native.Mathlib.Omega.{arith}
 use lib.ListN.{length, getD, drop, drop-of-length-le}
 use Rattle.endian.proofs.Parts.{drop-step}
-use Rattle.rules.specs.declared.Node.{Node}
-use Rattle.rules.specs.Lists.{keep}
-use Rattle.rules.specs.Instance.{Instance, width}
+use Rattle.node.specs.declared.Node.{Node}
+use Rattle.node.specs.Lists.{keep}
+use Rattle.node.specs.Instance.{Instance, width}
 use Rattle.rules.specs.Tree.{sum, columnBefore}
-use Rattle.rules.proofs.Members.{kept}
-use Rattle.matrix.specs.Stored.{ByColumn, ByRow}
+use Rattle.node.proofs.Members.{kept}
+use Rattle.node.specs.Stored.{ByColumn, ByRow}
 use Rattle.matrix.proofs.Members.{member-at}
 use Rattle.candidates.specs.Row.{view}
 use Rattle.choice.specs.declared.BranchColumn.{BranchColumn}

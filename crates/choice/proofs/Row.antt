@@ -8,14 +8,14 @@ use native.Mathlib.Omega.{arith}
 use lib.ListN.{length}
 use lib.Dec.{eqb, ltb}
 use borrow.Author.Tests.{lt-ltb}
-use Rattle.rules.specs.declared.Node.{Node}
-use Rattle.rules.specs.Lists.{keep, least}
-use Rattle.rules.specs.Instance.{Instance, width, columns, covers}
-use Rattle.rules.specs.Node.{isFree, costAt, freeColumns, freeOf}
+use Rattle.node.specs.declared.Node.{Node}
+use Rattle.node.specs.Lists.{keep, least}
+use Rattle.node.specs.Instance.{Instance, width, columns, covers}
+use Rattle.node.specs.Node.{isFree, costAt, freeColumns, freeOf}
 use Rattle.rules.specs.Reduce.{byOrder}
 use Rattle.rules.specs.Tree.{sum, just, most, penaltyOf, zeros, dearer, penalty, rowBefore}
-use Rattle.rules.proofs.Members.{keep-short, keep-upto}
-use Rattle.matrix.specs.Stored.{partAt, ByRow}
+use Rattle.node.proofs.Members.{keep-short, keep-upto}
+use Rattle.node.specs.Stored.{partAt, ByRow}
 use Rattle.candidates.specs.Row.{view}
 use Rattle.candidates.proofs.Candidate.{free-row}
 use Rattle.choice.specs.Row.{amount, penaltyAt, branchRow, precedes, noRow, tally, tallyIn}

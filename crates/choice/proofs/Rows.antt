@@ -6,13 +6,13 @@ use native.Mathlib.Nat.{sub-zero}
 use native.Mathlib.Omega.{arith}
 use lib.ListN.{getD}
 use borrow.Author.Tests.{eq-eqb, ne-eqb}
-use Rattle.rules.specs.declared.Node.{Node}
-use Rattle.rules.specs.Lists.{keep, from}
-use Rattle.rules.specs.Instance.{Instance}
-use Rattle.rules.specs.Node.{freeColumns, freeOf, openRows}
+use Rattle.node.specs.declared.Node.{Node}
+use Rattle.node.specs.Lists.{keep, from}
+use Rattle.node.specs.Instance.{Instance}
+use Rattle.node.specs.Node.{freeColumns, freeOf, openRows}
 use Rattle.rules.specs.Tree.{sum, zeros, dearer, penalty, rowBefore}
-use Rattle.rules.proofs.Loops.{from-next}
-use Rattle.matrix.specs.Stored.{ByRow}
+use Rattle.node.proofs.Loops.{from-next}
+use Rattle.node.specs.Stored.{ByRow}
 use Rattle.candidates.specs.Row.{view}
 use Rattle.candidates.proofs.Best.{openFrom}
 use Rattle.choice.specs.declared.BranchRow.{BranchRow}

@@ -11,7 +11,7 @@ use lib.ListN.{length, getD, set, take, length-set}
 use lib.Seq.{take-suc, take-all, getD-set-same, getD-set-other}
 use lib.Dec.{eqb}
 use borrow.Author.Tests.{eqb-true, eqb-false, le-ltb, lt-ltb}
-use Rattle.rules.specs.Lists.{keep, member, upto, on}
+use Rattle.node.specs.Lists.{keep, member, upto, on}
 use Rattle.rules.proofs.Sums.{total-add, total-at, length-keep}
 use Rattle.choice.specs.Column.{isSeen, Counted}
 

@@ -11,14 +11,14 @@ use lib.ListN.{length, getD, take}
 use lib.Seq.{take-suc, take-all}
 use lib.Dec.{eqb}
 use borrow.Author.Tests.{le-ltb}
-use Rattle.rules.specs.declared.Node.{Node}
-use Rattle.rules.specs.Lists.{keep, member, upto}
-use Rattle.rules.specs.Instance.{Instance, width, columns, body, covers, meets}
-use Rattle.rules.specs.Node.{isFree, costAt, freeColumns}
+use Rattle.node.specs.declared.Node.{Node}
+use Rattle.node.specs.Lists.{keep, member, upto}
+use Rattle.node.specs.Instance.{Instance, width, columns, body, covers, meets}
+use Rattle.node.specs.Node.{isFree, costAt, freeColumns}
 use Rattle.rules.specs.Tree.{sum, sharing}
-use Rattle.rules.proofs.Members.{so, here, there, member-cases, kept, member-keep, member-upto, upto-lt, keep-cong, keep-upto}
-use Rattle.rules.proofs.Plans.{Shared, meets-at, meets-of}
-use Rattle.matrix.specs.Stored.{Small, partAt, ByRow}
+use Rattle.node.proofs.Members.{so, here, there, member-cases, kept, member-keep, member-upto, upto-lt, keep-cong, keep-upto}
+use Rattle.node.proofs.Shares.{meets-at, meets-of}
+use Rattle.node.specs.Stored.{Small, partAt, ByRow}
 use Rattle.candidates.specs.Row.{view}
 use Rattle.candidates.proofs.Keep.{keep-none}
 use Rattle.choice.specs.Row.{SomeRow}
@@ -73,7 +73,7 @@ either-way false false f g = refl
 
 -- two columns meet where their bodies have a row in common
 meets-common : (p : Instance) → Small p → (j k : ℕ) → j < width p → meets p j k ≡ common (body p j) (body p k)
-unfolding Shared covers
+unfolding covers
 meets-common p s j k l =
     either-way (meets p j k) (common (body p j) (body p k))
     (λ h. let q = meets-at p j k h in common-of (body p j) (body p k) (suc (q .0)) (q .2) (q .3))

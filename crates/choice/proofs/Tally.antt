@@ -9,9 +9,9 @@ use lib.ListN.{length, getD, take, length-append, length-take}
 use lib.Seq.{take-suc, take-all}
 use lib.Dec.{eqb, ltb}
 use borrow.Author.Tests.{eq-eqb, ne-eqb, lt-ltb, le-ltb, ltb-true, eqb-true, eqb-false}
-use Rattle.rules.specs.Lists.{keep, member, least, leastFrom}
-use Rattle.rules.proofs.Members.{kept, least-at, keep-short}
-use Rattle.rules.proofs.Loops.{keep-append}
+use Rattle.node.specs.Lists.{keep, member, least, leastFrom}
+use Rattle.node.proofs.Members.{kept, least-at, keep-short}
+use Rattle.node.proofs.Loops.{keep-append}
 use Rattle.candidates.proofs.Keep.{least-more}
 use Rattle.choice.specs.declared.BranchRow.{BranchRow}
 use Rattle.choice.specs.Row.{tally, lowerPenalty, joined, tallyIn}

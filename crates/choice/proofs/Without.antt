@@ -6,8 +6,8 @@ use Prim.Native.Nat.{ℕ, _+_}
 use native.Mathlib.Nat.{add-zero}
 use native.Mathlib.Omega.{arith}
 use lib.ListN.{length}
-use Rattle.rules.specs.declared.Node.{Node}
-use Rattle.rules.specs.Instance.{Instance}
+use Rattle.node.specs.declared.Node.{Node}
+use Rattle.node.specs.Instance.{Instance}
 use Rattle.rules.specs.Tree.{sum, Penalty, just, most, plus, zeros, penalty, withoutBound}
 use Rattle.choice.specs.declared.BranchRow.{BranchRow}
 use Rattle.choice.specs.Row.{amount, branchRow}

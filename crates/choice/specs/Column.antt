@@ -5,11 +5,11 @@ use mathlib.Core.List.{List, [], _∷_}
 use Prim.Native.Nat.{ℕ, _+_, _*_, _≤_, _<_}
 use lib.ListN.{length, getD}
 use lib.Dec.{eqb, ltb}
-use Rattle.rules.specs.declared.Node.{Node}
-use Rattle.rules.specs.Lists.{keep, member, upto}
-use Rattle.rules.specs.Instance.{Instance, width, columns, body, span}
+use Rattle.node.specs.declared.Node.{Node}
+use Rattle.node.specs.Lists.{keep, member, upto}
+use Rattle.node.specs.Instance.{Instance, width, columns, body, span}
 use Rattle.rules.specs.Tree.{sum, zeros, sharing, columnBefore}
-use Rattle.matrix.specs.Stored.{ByColumn, ByRow}
+use Rattle.node.specs.Stored.{ByColumn, ByRow}
 use Rattle.candidates.specs.Row.{view}
 use Rattle.choice.specs.declared.BranchColumn.{BranchColumn}
 use Rattle.choice.specs.Best.{bestIn}

@@ -5,13 +5,13 @@ use mathlib.Core.List.{List}
 use Prim.Native.Nat.{ℕ, zero, suc, _+_, _<_, min}
 use lib.ListN.{length, getD}
 use lib.Dec.{eqb, ltb}
-use Rattle.rules.specs.declared.Node.{Node}
-use Rattle.rules.specs.Lists.{keep, least}
-use Rattle.rules.specs.Instance.{Instance}
-use Rattle.rules.specs.Node.{freeOf, openRows}
+use Rattle.node.specs.declared.Node.{Node}
+use Rattle.node.specs.Lists.{keep, least}
+use Rattle.node.specs.Instance.{Instance}
+use Rattle.node.specs.Node.{freeOf, openRows}
 use Rattle.rules.specs.Reduce.{byOrder}
 use Rattle.rules.specs.Tree.{sum, Penalty, just, most, aboveP, sameP, zeros, penalty, rowBefore}
-use Rattle.matrix.specs.Stored.{ByRow}
+use Rattle.node.specs.Stored.{ByRow}
 use Rattle.choice.specs.declared.BranchRow.{BranchRow}
 use Rattle.choice.specs.Best.{bestIn}
 

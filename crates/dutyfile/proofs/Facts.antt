@@ -10,7 +10,7 @@ use borrow.Author.Tests.{leb-true, eqb-true, le-leb, eq-eqb}
 use Rattle.endian.specs.Bytes.{same}
 use Rattle.refusals.specs.Refusals.{Fault, fine, ask, _then_}
 use Rattle.refusals.proofs.Laws.{both, asked, goes-on, passes}
-use Rattle.rules.proofs.Members.{and-both}
+use Rattle.node.proofs.Members.{and-both}
 use Rattle.dutyfile.specs.declared.Entry.{Entry}
 use Rattle.dutyfile.specs.File.{magic, rowsIn, columnsIn, bodiesAt, entries, sizeOf, parse, sum}
 use Rattle.dutyfile.specs.Faults.{within, countsFault, columnFault, entryFault, entriesFault, headerFault, contentsFault, endFault, rowsFault, fileFault}

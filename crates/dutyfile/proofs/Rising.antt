@@ -10,8 +10,8 @@ use lib.ListN.{length, getD, drop, drop-of-length-le}
 use Rattle.endian.proofs.Parts.{drop-step}
 use Rattle.refusals.specs.Refusals.{fine, fault}
 use Rattle.refusals.proofs.Laws.{stops-at, goes-on, passes, fails, both, asked}
-use Rattle.rules.specs.Lists.{member}
-use Rattle.rules.proofs.Members.{and-both}
+use Rattle.node.specs.Lists.{member}
+use Rattle.node.proofs.Members.{and-both}
 use Rattle.dutyfile.specs.Faults.{rising, bodiesFault}
 
 module _ (xs : List ℕ) (low high i : ℕ) (inside : i < length xs) where

@@ -3,7 +3,7 @@ use mathlib.Core.List.{List, [], _∷_, _++_, map}
 use Prim.Native.Nat.{ℕ, zero, suc, _+_, _*_}
 use lib.ListN.{length, take, drop}
 use Rattle.endian.specs.Bytes.{at16, at32, bytes16, bytes32}
-use Rattle.rules.specs.Instance.{Instance}
+use Rattle.node.specs.Instance.{Instance}
 use Rattle.dutyfile.specs.declared.Entry.{Entry}
 use Rattle.dutyfile.specs.declared.Shape.{Shape}
 

@@ -10,9 +10,9 @@ use lib.ListN.{length, getD, take, drop, length-map, length-take, length-drop}
 use borrow.Author.Tests.{ltb-true, leb-true}
 use Rattle.refusals.specs.Refusals.{fine}
 use Rattle.refusals.proofs.Laws.{both, asked}
-use Rattle.rules.specs.Lists.{member}
-use Rattle.rules.specs.Instance.{Instance, width, body, span}
-use Rattle.rules.proofs.Members.{member-cases, and-both}
+use Rattle.node.specs.Lists.{member}
+use Rattle.node.specs.Instance.{Instance, width, body, span}
+use Rattle.node.proofs.Members.{member-cases, and-both}
 use Rattle.rules.proofs.Sums.{total-cong}
 use Rattle.dutyfile.specs.declared.Entry.{Entry}
 use Rattle.dutyfile.specs.File.{rowsIn, columnsIn, bodiesAt, entryOf, entries, costOf, sizeOf, parse, sum, bodies, instance, shape}
@@ -20,7 +20,7 @@ use Rattle.dutyfile.specs.Faults.{rising, bodiesFault, contentsFault, rowsFault
 use Rattle.dutyfile.proofs.Entries.{length-entries}
 use Rattle.dutyfile.proofs.Facts.{Accepted, contents-small, length-numbers}
 use Rattle.dutyfile.proofs.Columns.{body-at, length-bodies, ColumnAt, column-at}
-use Rattle.matrix.specs.Stored.{Small, ByColumn}
+use Rattle.node.specs.Stored.{Small, ByColumn}
 use Rattle.matrix.specs.Build.{Counts, Starts}
 use Rattle.matrix.proofs.Sums.{sum-more, sum-take-le, total-sum, total-below}
 

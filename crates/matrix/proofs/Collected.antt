@@ -8,8 +8,8 @@ use native.Mathlib.Omega.{arith}
 use lib.ListN.{length, getD, set}
 use lib.Seq.{sets}
 use borrow.Author.Tests.{eq-eqb, ne-eqb}
-use Rattle.rules.specs.Lists.{keep, from}
-use Rattle.rules.proofs.Loops.{from-next}
+use Rattle.node.specs.Lists.{keep, from}
+use Rattle.node.proofs.Loops.{from-next}
 use Rattle.matrix.specs.Build.{place, markedIn, marksOf}
 
 -- the columns from j on that are marked in a row

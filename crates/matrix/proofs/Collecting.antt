@@ -9,12 +9,13 @@ use lib.ListN.{length, getD, set, take, drop, length-set, length-drop, take-appe
 use lib.Seq.{sets, sets-eq, length-sets, getD-set-same, getD-set-other, take-append-le, drop-append-le, take-at, drop-at, length-take-le}
 use lib.Dec.{eqb}
 use borrow.Author.Tests.{eqb-true, eqb-false}
-use Rattle.rules.specs.Lists.{total}
-use Rattle.rules.specs.Instance.{Instance, body}
+use Rattle.node.specs.Lists.{total}
+use Rattle.node.specs.Instance.{Instance, body}
 use Rattle.rules.proofs.Sums.{total-cong}
-use Rattle.matrix.specs.Stored.{Small, Part, rowColumns, ByColumn, ByRow}
+use Rattle.node.specs.Stored.{Small, Part, rowColumns, ByColumn, ByRow}
 use Rattle.matrix.specs.Build.{Counts, Covers, marksOf, Rows}
-use Rattle.matrix.proofs.Parts.{part-length, rows-full}
+use Rattle.node.proofs.Parts.{part-length}
+use Rattle.matrix.proofs.Parts.{rows-full}
 use Rattle.matrix.proofs.Covered.{marks-row}
 
 total-mono : (f : ℕ → ℕ) (k n : ℕ) → k ≤ n → total k f ≤ total n f

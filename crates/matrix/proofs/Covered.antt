@@ -10,12 +10,12 @@ use lib.Seq.{getD-set-same, getD-set-other}
 use lib.Dec.{eqb, ltb}
 use borrow.Author.Tests.{eqb-true, eqb-false, lt-ltb, le-ltb, ltb-true, ltb-false}
 use Rattle.endian.proofs.Parts.{drop-step}
-use Rattle.rules.specs.Lists.{on, member, keep, upto}
-use Rattle.rules.specs.Instance.{Instance, width, body, covers}
-use Rattle.rules.proofs.Members.{keep-cong, upto-lt}
-use Rattle.matrix.specs.Stored.{ByColumn, partAt}
-use Rattle.matrix.specs.Build.{Counts, SomeColumns, place, marked, Body, Covers, markedIn, marksOf}
-use Rattle.matrix.proofs.Parts.{body-rows}
+use Rattle.node.specs.Lists.{on, member, keep, upto}
+use Rattle.node.specs.Instance.{Instance, width, body, covers}
+use Rattle.node.proofs.Members.{keep-cong, upto-lt}
+use Rattle.node.specs.Stored.{Body, ByColumn, partAt}
+use Rattle.matrix.specs.Build.{Counts, SomeColumns, place, marked, Covers, markedIn, marksOf}
+use Rattle.node.proofs.Parts.{body-rows}
 
 -- at row number k of a body
 pub record Marking (j : ℕ) (rs cover₀ cover : List ℕ) (k : ℕ) : Type 0 where

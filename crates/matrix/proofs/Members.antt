@@ -1,20 +1,14 @@
--- An element of a list is a member of it, and no list has more different members than elements.
+-- No list has more different members than elements.
 use mathlib.Core.Path.{_≡_, refl}
 use mathlib.Core.Bool.{Bool, true, false, _||_}
 use mathlib.Core.List.{List, [], _∷_}
-use Prim.Native.Nat.{ℕ, zero, suc, _+_, _≤_, _<_}
+use Prim.Native.Nat.{ℕ, zero, suc, _+_, _≤_}
 use native.Mathlib.Omega.{arith}
-use lib.ListN.{length, getD}
+use lib.ListN.{length}
 use lib.Dec.{eqb}
 use borrow.Author.Tests.{eqb-true, ne-eqb}
-use Rattle.rules.specs.Lists.{on, member, total}
-use Rattle.rules.proofs.Members.{here, there}
+use Rattle.node.specs.Lists.{on, member, total}
 use Rattle.rules.proofs.Sums.{total-zero, total-le, total-add}
-
-pub member-at : (l : List ℕ) (k : ℕ) → k < length l → member (getD l k 0) l ≡ true
-member-at [] k h = absurd (omega arith)
-member-at (x ∷ l) zero h = here x l
-member-at (x ∷ l) (suc k) h = there (getD l k 0) x l (member-at l k (omega arith))
 
 -- the first m numbers that are equal to r, and those that are in a list
 equal-le : (m r : ℕ) → total m (λ i. on (eqb (suc i) r) 1) ≤ 1

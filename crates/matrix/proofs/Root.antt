@@ -9,10 +9,10 @@ use borrow.Author.Fill.{fill-none, fill-more}
 use lib.Seq.{getD-append-add, getD-drop}
 use lib.Dec.{ltb}
 use borrow.Author.Tests.{ltb-true, ltb-false}
-use Rattle.rules.specs.Lists.{on, table}
-use Rattle.rules.proofs.Loops.{table-ext}
-use Rattle.rules.specs.Instance.{Instance}
-use Rattle.rules.specs.Node.{root}
+use Rattle.node.specs.Lists.{on, table}
+use Rattle.node.proofs.Loops.{table-ext}
+use Rattle.node.specs.Instance.{Instance}
+use Rattle.node.specs.Node.{root}
 use Rattle.matrix.specs.Build.{Counts, ones}
 
 -- a list at the front of zeros

@@ -5,7 +5,7 @@ use Prim.Native.Nat.{ℕ, zero, suc, _+_, _*_, _≤_, _<_}
 use native.Mathlib.Numerals.{add-one}
 use native.Mathlib.Omega.{arith}
 use lib.ListN.{length, getD, take}
-use Rattle.rules.specs.Lists.{total}
+use Rattle.node.specs.Lists.{total}
 use Rattle.dutyfile.specs.File.{sum}
 
 sum-suc : (l : List ℕ) (j : ℕ) → j < length l → sum (take (suc j) l) ≡ sum (take j l) + getD l j 0

@@ -5,11 +5,11 @@ use mathlib.Core.List.{List, [], _∷_, _++_}
 use Prim.Native.Nat.{ℕ, _+_, _*_, _-_, _≤_, _<_}
 use lib.ListN.{length, getD, set, take, drop, replicate}
 use lib.Dec.{eqb, ltb}
-use Rattle.rules.specs.Lists.{on, keep, upto}
-use Rattle.rules.specs.Instance.{Instance, width, covers}
+use Rattle.node.specs.Lists.{on, keep, upto}
+use Rattle.node.specs.Instance.{Instance, width, covers}
 use Rattle.dutyfile.specs.File.{sum}
 use Rattle.matrix.specs.declared.RowLists.{RowLists}
-use Rattle.matrix.specs.Stored.{ByColumn, Part}
+use Rattle.node.specs.Stored.{ByColumn, Part}
 
 -- an instance has so many rows and columns
 pub record Counts (p : Instance) (rows columns : ℕ) : Type 0 where
@@ -28,10 +28,6 @@ place i j = 256 * i + j
 unfoldable pub marked : ℕ → List ℕ → List ℕ → List ℕ
 marked j [] cover = cover
 marked j (r ∷ rs) cover = marked j rs (set cover (place (r - 1) j) 1)
-
--- the rows of a body are rows of the table
-abbrev pub Body : List ℕ → Type 0
-Body rs = (k : ℕ) → k < length rs → (1 ≤ getD rs k 0) × (getD rs k 0 ≤ 64)
 
 -- the table says which row is covered by which of the first n columns
 abbrev pub Covers : Instance → ℕ → List ℕ → Type 0

@@ -1,15 +1,15 @@
 // The matrix, kept by columns and by rows, and the root node: built once from the lists of a file.
-use rules::Node;
+use node::Node;
 ghost use mathlib.Core.Path.{_≡_};
 ghost use Prim.Native.Nat.{ℕ, _+_, _*_, _≤_, _<_};
 ghost use lib.ListN.{length, getD};
 ghost use lib.Seq.{sets};
-ghost use Rattle.rules.specs.Lists.{total, table};
-ghost use Rattle.rules.specs.Instance.{Instance};
-ghost use Rattle.rules.specs.Node.{root};
+ghost use Rattle.node.specs.Lists.{total, table};
+ghost use Rattle.node.specs.Instance.{Instance};
+ghost use Rattle.node.specs.Node.{root};
 ghost use Rattle.dutyfile.specs.File.{sum};
-ghost use Rattle.matrix.specs.Stored.{ByColumn, ByRow};
-ghost use Rattle.matrix.specs.Build.{Counts, Starts, Body, marked, Covers, marksOf, Rows, SomeColumns, ones};
+ghost use Rattle.node.specs.Stored.{Body, ByColumn, ByRow};
+ghost use Rattle.matrix.specs.Build.{Counts, Starts, marked, Covers, marksOf, Rows, SomeColumns, ones};
 
 // Places for the starts, all 0.
 fn no_starts() -> [u16; 257]

@@ -11,10 +11,10 @@ use borrow.Author.Tests.{le-leb, leb-true}
 use Rattle.refusals.specs.Refusals.{Fault, fine, fault, _then_, accepted, refused, unless, numberOf, front, filled}
 use Rattle.refusals.specs.declared.Refusal.{Refusal}
 use Rattle.refusals.proofs.Laws.{both, asked, passes, stops-at, goes-on, unless-fine, unless-fault, accepts, refuses, fills}
-use Rattle.rules.specs.declared.Node.{Node}
-use Rattle.rules.specs.Lists.{table}
-use Rattle.rules.specs.Instance.{Instance}
-use Rattle.rules.specs.Node.{root}
+use Rattle.node.specs.declared.Node.{Node}
+use Rattle.node.specs.Lists.{table}
+use Rattle.node.specs.Instance.{Instance}
+use Rattle.node.specs.Node.{root}
 use Rattle.rules.proofs.Reducing.{reduce-used}
 use Rattle.dutyfile.specs.declared.Shape.{Shape}
 use Rattle.dutyfile.specs.File.{rowsIn, columnsIn, entries, costOf, sizeOf, parse, sum, instance, shape}
@@ -25,7 +25,7 @@ use Rattle.reader.specs.declared.ReadAnswer.{ReadAnswer}
 use Rattle.reader.specs.declared.ReadAnswer.the-variants.{Accepted as accept, Refused as refuse}
 use Rattle.reader.specs.Answer.{readOutcome}
 use Rattle.rules.proofs.Costs.{Good, root-good}
-use Rattle.matrix.specs.Stored.{ByColumn}
+use Rattle.node.specs.Stored.{ByColumn}
 use Rattle.matrix.specs.Build.{Counts, Starts}
 use Rattle.matrix.proofs.Root.{zeros-after}
 use Rattle.matrix.proofs.Accepted.{file-counts, file-small, file-columns}

@@ -7,19 +7,19 @@ use native.Mathlib.Numerals.{add-one}
 use native.Mathlib.Omega.{arith}
 use lib.ListN.{length, set, take, length-set, length-append}
 use lib.Seq.{take-suc-set}
-use Rattle.rules.specs.declared.Node.{Node}
+use Rattle.node.specs.declared.Node.{Node}
 use Rattle.rules.specs.declared.Candidate.{Candidate}
-use Rattle.rules.specs.Lists.{pick, on}
-use Rattle.rules.specs.Instance.{Instance, FitsNode}
-use Rattle.rules.specs.Node.{costAt, freeColumns, freeOf, openRows}
+use Rattle.node.specs.Lists.{pick, on}
+use Rattle.node.specs.Instance.{Instance, FitsNode}
+use Rattle.node.specs.Node.{costAt, freeColumns, freeOf, openRows}
 use Rattle.rules.specs.Reduce.{leastOf, candidates, candidate, rowFirst, Reduced, reduceBy}
 use Rattle.rules.specs.Reduce as rules
-use Rattle.rules.proofs.Members.{least-le}
+use Rattle.node.proofs.Members.{least-le}
 use Rattle.rules.proofs.Plans.{FreeIn}
 use Rattle.rules.proofs.Rows.{in-free}
 use Rattle.rules.proofs.Costs.{Good}
 use Rattle.rules.proofs.Reducing.{pending, pending-fits, reduce-none, reduce-some}
-use Rattle.matrix.specs.Stored.{ByRow}
+use Rattle.node.specs.Stored.{ByRow}
 use Rattle.candidates.specs.Row.{view}
 use Rattle.candidates.specs.Best.{none, bestIn, bestOf}
 use Rattle.reduce.specs.Lower.{SomeLower}

@@ -11,15 +11,15 @@ use lib.Seq.{getD-set-same, getD-set-other}
 use lib.Dec.{eqb, ltb}
 use borrow.Author.Tests.{eqb-true, eqb-false, eq-eqb, ne-eqb, ltb-true, ltb-false}
 use Rattle.endian.proofs.Parts.{drop-step}
-use Rattle.rules.specs.declared.Node.{Node}
-use Rattle.rules.specs.Lists.{member, on, table}
-use Rattle.rules.specs.Instance.{Instance, width, columns, covers}
-use Rattle.rules.specs.Node.{isFree, costAt}
+use Rattle.node.specs.declared.Node.{Node}
+use Rattle.node.specs.Lists.{member, on, table}
+use Rattle.node.specs.Instance.{Instance, width, columns, covers}
+use Rattle.node.specs.Node.{isFree, costAt}
 use Rattle.rules.specs.Reduce as rules
-use Rattle.rules.proofs.Members.{member-keep, member-upto, upto-lt, kept, not-so}
-use Rattle.rules.proofs.Loops.{table-ext}
+use Rattle.node.proofs.Members.{member-keep, member-upto, upto-lt, kept, not-so}
+use Rattle.node.proofs.Loops.{table-ext}
 use Rattle.rules.proofs.Plans.{FreeIn}
-use Rattle.matrix.specs.Stored.{Small, partAt, rowColumns, ByRow}
+use Rattle.node.specs.Stored.{Small, partAt, rowColumns, ByRow}
 use Rattle.matrix.proofs.Parts.{row-column}
 use Rattle.reduce.specs.Lower.{lowerAt, Covered}
 

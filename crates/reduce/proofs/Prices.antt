@@ -9,13 +9,13 @@ use lib.ListN.{length, getD, take, drop, length-map, List·getD-append}
 use lib.Seq.{length-take-le, getD-take}
 use Rattle.refusals.specs.Refusals.{front, filled}
 use Rattle.refusals.proofs.Laws.{both, accepts, fills}
-use Rattle.rules.specs.declared.Node.{Node}
-use Rattle.rules.specs.Lists.{pick, upto, on, total}
-use Rattle.rules.specs.Instance.{Instance, width, price, IsPlan}
-use Rattle.rules.specs.Node.{root, costAt}
+use Rattle.node.specs.declared.Node.{Node}
+use Rattle.node.specs.Lists.{pick, upto, on, total}
+use Rattle.node.specs.Instance.{Instance, width, price, IsPlan}
+use Rattle.node.specs.Node.{root, costAt}
 use Rattle.rules.specs.Reduce.{leastOf, candidates, rowFirst, reduceOn, reduceBy}
 use Rattle.rules.specs.Reduce as rules
-use Rattle.rules.proofs.Members.{length-from}
+use Rattle.node.proofs.Members.{length-from}
 use Rattle.rules.proofs.Sums.{total-cong}
 use Rattle.rules.proofs.Reducing.{reduce-identity}
 use Rattle.dutyfile.specs.File.{parse, instance, shape}

@@ -3,8 +3,8 @@ use mathlib.Core.List.{List, map}
 use Prim.Native.Nat.{ℕ, suc}
 use lib.ListN.{length, take}
 use Rattle.refusals.specs.Refusals.{Fault, _then_, Outcome, accepted, refused, unless, numberOf}
-use Rattle.rules.specs.Instance.{Instance, width}
-use Rattle.rules.specs.Node.{root}
+use Rattle.node.specs.Instance.{Instance, width}
+use Rattle.node.specs.Node.{root}
 use Rattle.rules.specs.Reduce as rules
 use Rattle.dutyfile.specs.declared.Shape.{Shape}
 use Rattle.dutyfile.specs.File.{parse, instance, shape}

@@ -3,15 +3,15 @@ use mathlib.Core.Path.{_≡_}
 use mathlib.Core.List.{List, map}
 use Prim.Native.Nat.{ℕ, suc, _≤_}
 use lib.ListN.{length, take, drop, getD}
-use Rattle.rules.specs.declared.Node.{Node}
-use Rattle.rules.specs.Lists.{table}
-use Rattle.rules.specs.Instance.{Instance}
-use Rattle.rules.specs.Node.{root}
+use Rattle.node.specs.declared.Node.{Node}
+use Rattle.node.specs.Lists.{table}
+use Rattle.node.specs.Instance.{Instance}
+use Rattle.node.specs.Node.{root}
 use Rattle.rules.specs.Reduce.{reduce}
 use Rattle.rules.proofs.Costs.{Good}
 use Rattle.dutyfile.specs.File.{parse, instance, shape}
 use Rattle.dutyfile.proofs.Facts.{Accepted}
-use Rattle.matrix.specs.Stored.{ByRow}
+use Rattle.node.specs.Stored.{ByRow}
 use Rattle.reduce.specs.declared.Reduction.{Reduction}
 
 -- a good node of some instance that is kept by rows so

@@ -5,11 +5,11 @@ use mathlib.Core.List.{List, [], _∷_}
 use Prim.Native.Nat.{ℕ, _+_, _-_, _≤_, _<_}
 use lib.ListN.{length, getD, set}
 use lib.Dec.{eqb}
-use Rattle.rules.specs.declared.Node.{Node}
-use Rattle.rules.specs.Instance.{Instance}
-use Rattle.rules.specs.Node.{costAt}
+use Rattle.node.specs.declared.Node.{Node}
+use Rattle.node.specs.Instance.{Instance}
+use Rattle.node.specs.Node.{costAt}
 use Rattle.rules.proofs.Plans.{FreeIn}
-use Rattle.matrix.specs.Stored.{ByRow}
+use Rattle.node.specs.Stored.{ByRow}
 
 -- an amount off the costs of the free columns of a list
 unfoldable pub lowerAt : List ℕ → List ℕ → ℕ → List ℕ → List ℕ → List ℕ

@@ -7,23 +7,19 @@ use native.Mathlib.Omega.{arith}
 use lib.ListN.{getD}
 use lib.Dec.{eqb}
 use borrow.Author.Tests.{eqb-true}
-use Rattle.rules.specs.declared.Node.{Node}
-use Rattle.rules.specs.Lists.{on, total}
-use Rattle.rules.specs.Instance.{Instance, FitsNode, width, covers, price}
-use Rattle.rules.specs.Node.{isFree, isTaken, costAt, root, take, leave}
+use Rattle.node.specs.declared.Node.{Node}
+use Rattle.node.specs.Lists.{on, total}
+use Rattle.node.specs.Instance.{Instance, FitsNode, width, covers, price}
+use Rattle.node.specs.Node.{isFree, isTaken, costAt, root, take, leave}
 use Rattle.rules.specs.Reduce.{lower}
 use Rattle.rules.specs.Tree.{joined}
-use Rattle.rules.specs.Identity.{Completion, rest, Identity}
-use Rattle.rules.proofs.Members.{at-table}
+use Rattle.rules.specs.Identity.{Completion, rest, Identity, ceiling}
+use Rattle.node.proofs.Members.{at-table}
 use Rattle.rules.proofs.Sums.{total-cong, total-add, total-add-le, total-at}
 use Rattle.rules.proofs.Plans.{Open, Free, FreeIn, Sound, rest-row, not-both, root-sound, root-free, root-cost, comp-same}
 use Rattle.rules.proofs.Plans.{sound-same}
 use Rattle.rules.proofs.Decide.{Decided, stays, goes, joins, gained, undo}
 use Rattle.rules.proofs.Steps.{take-decides, take-gains, take-sound, leave-decides, leave-gains, leave-rest, leave-sound}
-
--- the bound, and the present costs of the free columns
-abbrev pub ceiling : Instance → Node → ℕ
-ceiling p s = s .bound + total (width p) (λ k. on (isFree s k) (costAt s k))
 
 -- what holds of every node of the sum search; the last says that the bound and the present costs of all free columns never pass the sum
 -- of the costs in the file
@@ -92,6 +88,17 @@ module _ (p : Instance) (F : FitsNode p) (s : Node) (j : ℕ) (f : Free p s j) w
       let b : ℕ = joined s j in
       decided-good p s (take p s j b) (take-decides p F s j f b) g (take-sound p F s j f b (g .sound)) (take-rest b .0)
       (omega (arith, take-rest b .1, take-gains p F s j f b (costAt s)))
+
+  -- taking moves a cost to the bound
+  pub take-ceiling : ceiling p (take p s j (joined s j)) ≤ ceiling p s
+  take-ceiling =
+      let b : ℕ = joined s j in
+      rw (take-rest b .0) (omega (
+        arith,
+        take-rest b .1,
+        take-gains p F s j f b (costAt s),
+        free-parts p s (take p s j b) (take-decides p F s j f b) (costAt s),
+      ))
 
   pub leave-good : Good p s → Good p (leave s j)
   leave-good g =

@@ -4,12 +4,12 @@ use mathlib.Core.Bool.{Bool, true, false, _&&_, true≢false}
 use Prim.Native.Nat.{ℕ, _+_, _<_}
 use native.Mathlib.Omega.{arith}
 use lib.ListN.{length}
-use Rattle.rules.specs.declared.Node.{Node}
-use Rattle.rules.specs.Lists.{on, total, upto}
-use Rattle.rules.specs.Instance.{Instance, width, covers, count}
-use Rattle.rules.specs.Node.{mark, isFree, isTaken, isOpen, freeColumns}
+use Rattle.node.specs.declared.Node.{Node}
+use Rattle.node.specs.Lists.{on, total, upto}
+use Rattle.node.specs.Instance.{Instance, width, covers, count}
+use Rattle.node.specs.Node.{mark, isFree, isTaken, isOpen, freeColumns}
 use Rattle.rules.specs.Identity.{Completion}
-use Rattle.rules.proofs.Members.{keep-lt, member-upto, upto-lt}
+use Rattle.node.proofs.Members.{keep-lt, member-upto, upto-lt}
 use Rattle.rules.proofs.Sums.{total-add}
 use Rattle.rules.proofs.Plans.{Free, FreeIn, Sound, not-taken, not-both}
 

@@ -6,9 +6,9 @@ use mathlib.Core.List.{List, [], _∷_}
 use mathlib.Core.Logic.{_↔_}
 use Prim.Native.Nat.{ℕ, zero, suc, _^_, _≤_, _<_}
 use native.Mathlib.Omega.{arith}
-use Rattle.rules.specs.declared.Node.{Node}
-use Rattle.rules.specs.Instance.{Instance, FitsNode, width, chosen, Shows}
-use Rattle.rules.specs.Node.{openRows}
+use Rattle.node.specs.declared.Node.{Node}
+use Rattle.node.specs.Instance.{Instance, FitsNode, width, chosen, Shows}
+use Rattle.node.specs.Node.{openRows}
 use Rattle.rules.specs.Search.{Incumbent, nothing, Walk, enter, walk, nodes, after, Answer, best, none, stopped, shownBy}
 use Rattle.rules.specs.Search.{nodesOf, isNone, isStopped}
 use Rattle.rules.specs.Limited.{fresh, limited, answerFrom}

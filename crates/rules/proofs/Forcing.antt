@@ -9,13 +9,16 @@ use native.Mathlib.Omega.{arith}
 use lib.ListN.{length}
 use lib.Dec.{eqb}
 use borrow.Author.Tests.{eqb-true, eq-eqb}
-use Rattle.rules.specs.declared.Node.{Node}
-use Rattle.rules.specs.Lists.{member, first}
-use Rattle.rules.specs.Instance.{Instance, FitsNode, width}
-use Rattle.rules.specs.Node.{freeOf, openRows, take}
-use Rattle.rules.specs.Force.{Asked, dead, forced, settled, rowsWith, askedBy, asked, Forced, forceOn, forceBy, force}
+use Rattle.node.specs.declared.Node.{Node}
+use Rattle.node.specs.Lists.{member, first}
+use Rattle.node.specs.Instance.{Instance, FitsNode, width}
+use Rattle.node.specs.Node.{freeOf, openRows, take}
+use Rattle.rules.specs.Force.{rowsWith, askedBy, asked, forceOn, forceBy, force}
+use Rattle.rules.specs.declared.Asked.{Asked}
+use Rattle.rules.specs.declared.Asked.the-variants.{Dead, Take, Settled}
+use Rattle.rules.specs.declared.Forced.{Forced}
 use Rattle.rules.specs.Identity.{Completion}
-use Rattle.rules.proofs.Members.{so, here, member-cases, kept, member-keep}
+use Rattle.node.proofs.Members.{so, here, member-cases, kept, member-keep}
 use Rattle.rules.proofs.Plans.{Open, Free, FreeIn, Sound}
 use Rattle.rules.proofs.Steps.{take-comp, take-less}
 use Rattle.rules.proofs.Rows.{size, size-fits, open-in, in-open, free-in, in-free, some-free}
@@ -37,9 +40,9 @@ module _ (p : Instance) where
 
   -- why a node is dead, forced or settled
   abbrev Asks : Node → Asked → Type 0
-  Asks s dead = (i : ℕ) × Open p s i × (freeOf p s i ≡ [])
-  Asks s (forced j) = (i : ℕ) × Open p s i × (freeOf p s i ≡ j ∷ [])
-  Asks s settled = TwoFree s
+  Asks s Dead = (i : ℕ) × Open p s i × (freeOf p s i ≡ [])
+  Asks s (Take j) = (i : ℕ) × Open p s i × (freeOf p s i ≡ j ∷ [])
+  Asks s Settled = TwoFree s
 
   module _ (n : ℕ) (s : Node) (i : ℕ) where
     with-in : member i (rowsWith n p s) ≡ true → Open p s i × (length (freeOf p s i) ≡ n)
@@ -76,15 +79,22 @@ module _ (p : Instance) where
     forced-comp g b X c = take-comp p F s j (forced-free .free) b X c (so (λ x. some-free p s g i o X c (λ k f y.
         ⊎-elim (λ q. true≢false (sym y ∙ ap X q ∙ x)) false≢true (member-cases k j [] (rw e at (in-free p s i k f))))))
 
+  -- a column that is asked for is free
+  pub asked-free : FitsNode p → (s : Node) (j : ℕ) → asked p s ≡ Take j → Free p s j
+  asked-free F s j e = go (rw e at (asks s))
+    where
+      go : Asks s (Take j) → Free p s j
+      go (i, o, q) = forced-free F s i o j q .free
+
 module _ (p : Instance) (F : FitsNode p) (join : Node → ℕ → ℕ) where
   -- for a loop: the fuel does not matter, so forcing is one step and then forcing
   force-on-same : (s : Node) (a : Asked) → Asks p s a → (w u : Node → Forced) → ((t : Node) → size p t < size p s → w t ≡ u t)
       → forceOn join a p s w ≡ forceOn join a p s u
   unfolding forceOn
-  force-on-same s dead e w u q = refl
-  force-on-same s (forced j) (i, o, e) w u q =
+  force-on-same s Dead e w u q = refl
+  force-on-same s (Take j) (i, o, e) w u q =
       q (take p s j (join s j)) (take-less p F s j (forced-free p F s i o j e .free) (join s j))
-  force-on-same s settled e w u q = refl
+  force-on-same s Settled e w u q = refl
 
   force-same : (f h : ℕ) (s : Node) → size p s < f → size p s < h → forceBy join f p s ≡ forceBy join h p s
   unfolding forceBy
@@ -103,39 +113,39 @@ module _ (p : Instance) (F : FitsNode p) (join : Node → ℕ → ℕ) where
   module _ (Good : Node → Type 0) (sound : (s : Node) → Good s → Sound p s)
       (taking : (s : Node) (j : ℕ) → Free p s j → Good s → Good (take p s j (join s j))) where
     -- what forcing a node s comes to
-    pub record Settled (s : Node) (r : Forced) : Type 0 where
+    pub record Settles (s : Node) (r : Forced) : Type 0 where
       pub good : Good (r .node)
       pub less : size p (r .node) ≤ size p s
       pub comp : (X : ℕ → Bool) → Completion p s X → (r .alive ≡ true) × Completion p (r .node) X
       pub two : r .alive ≡ true → TwoFree p (r .node)
 
     force-on : (s : Node) → Good s → (a : Asked) → Asks p s a
-        → (w : Node → Forced) → ((t : Node) → Good t → size p t < size p s → Settled t (w t)) → Settled s (forceOn join a p s w)
+        → (w : Node → Forced) → ((t : Node) → Good t → size p t < size p s → Settles t (w t)) → Settles s (forceOn join a p s w)
     unfolding forceOn member
-    force-on s g dead (i, o, e) w q = record {
+    force-on s g Dead (i, o, e) w q = record {
       good = g;
       less = omega arith;
       two = λ h. absurd (false≢true h);
       comp = λ X c. absurd (some-free p s (sound s g) i o X c (λ k f x. false≢true (rw e at (in-free p s i k f))));
     }
-    force-on s g (forced j) (i, o, e) w q =
+    force-on s g (Take j) (i, o, e) w q =
         let t : Node = take p s j (join s j) in
         let f : Free p s j = forced-free p F s i o j e .free in
-        let r : Settled t (w t) = q t (taking s j f g) (take-less p F s j f (join s j)) in
+        let r : Settles t (w t) = q t (taking s j f g) (take-less p F s j f (join s j)) in
         record {
           good = r .good;
           less = omega (arith, r .less, take-less p F s j f (join s j));
           two = r .two;
           comp = λ X c. r .comp X (forced-comp p F s i o j e (sound s g) (join s j) X c);
         }
-    force-on s g settled h w q = record { good = g; less = omega arith; comp = λ X c. (refl, c); two = λ e. h }
+    force-on s g Settled h w q = record { good = g; less = omega arith; comp = λ X c. (refl, c); two = λ e. h }
 
-    force-by : (f : ℕ) (s : Node) → Good s → size p s < f → Settled s (forceBy join f p s)
+    force-by : (f : ℕ) (s : Node) → Good s → size p s < f → Settles s (forceBy join f p s)
     unfolding forceBy
     force-by zero s g l = absurd (omega arith)
     force-by (suc f) s g l =
         force-on s g (asked p s) (asks p s) (λ t. forceBy join f p t) (λ t h m. force-by f t h (omega arith))
 
-    pub force-settles : (s : Node) → Good s → Settled s (force join p s)
+    pub force-settles : (s : Node) → Good s → Settles s (force join p s)
     unfolding force
     force-settles s g = force-by (suc (width p)) s g (size-fits p s)

@@ -1,19 +1,20 @@
 -- What a node stands for, whatever the objective: its completions. Each open row is covered by just one of a completion's free columns,
 -- since a sound node's taken columns cover the closed rows once and the open ones not at all.
 use mathlib.Core.Path.{_≡_, refl, sym, ap, _∙_}
-use mathlib.Core.Bool.{Bool, true, false, not, _&&_, false≢true, true≢false}
-use mathlib.Core.List.{List, [], _∷_}
+use mathlib.Core.Bool.{Bool, true, false, not, _&&_, true≢false}
+use mathlib.Core.List.{List}
 use Prim.Native.Nat.{ℕ, _+_, _*_, _≤_, _<_}
 use native.Mathlib.Omega.{arith}
 use lib.ListN.{length, getD}
 use lib.Dec.{ltb}
 use borrow.Author.Tests.{eqb-true, lt-ltb}
-use Rattle.rules.specs.declared.Node.{Node}
-use Rattle.rules.specs.Lists.{keep, upto, member, isEmpty, on, total}
-use Rattle.rules.specs.Instance.{Instance, FitsNode, width, covers, meets, count, IsPlan, chosen, columns}
-use Rattle.rules.specs.Node.{mark, isFree, isTaken, isOpen, costAt, root}
+use Rattle.node.specs.declared.Node.{Node}
+use Rattle.node.specs.Lists.{keep, on, total}
+use Rattle.node.specs.Instance.{Instance, FitsNode, width, covers, meets, count, IsPlan, chosen, columns}
+use Rattle.node.specs.Node.{mark, isFree, isTaken, isOpen, costAt, root}
 use Rattle.rules.specs.Identity.{Completion, rest}
-use Rattle.rules.proofs.Members.{and-both, not-so, here, kept, member-keep, member-upto, upto-lt, at-table}
+use Rattle.node.proofs.Members.{and-both, not-so, at-table}
+use Rattle.node.proofs.Shares.{Shared, meets-at, meets-of}
 use Rattle.rules.proofs.Sums.{total-add, total-mul, total-zero, total-two, total-le, total-one, total-ones, total-swap}
 use Rattle.rules.proofs.Sums.{length-keep}
 
@@ -86,45 +87,17 @@ module _ (p : Instance) where
         rw (rest-once s g X c i o) at (total-mul (width p) a (f a) (f 1) (λ k l. scale (isFree s k && X k) (covers p i k) a)),
       )
 
-  -- two columns that share a row
-  unfoldable pub Shared : ℕ → ℕ → Type 0
-  Shared j k = (i : ℕ) × (i < p .rows) × (covers p i j ≡ true) × (covers p i k ≡ true)
-
-  pub meets-at : (j k : ℕ) → meets p j k ≡ true → Shared j k
-  unfolding Shared meets isEmpty
-  meets-at j k h = go (keep t (upto (p .rows))) refl h
-    where
-      t : ℕ → Bool
-      t i = covers p i j && covers p i k
-
-      go : (xs : List ℕ) → keep t (upto (p .rows)) ≡ xs → not (isEmpty xs) ≡ true → Shared j k
-      go [] e g = absurd (false≢true g)
-      go (i ∷ is) e g =
-          let m = kept t i (upto (p .rows)) (rw e (here i is)) in
-          let b = and-both (m .0) in
-          (i, upto-lt (p .rows) i (m .1), b .0, b .1)
-
-  pub meets-of : (i j k : ℕ) → i < p .rows → covers p i j ≡ true → covers p i k ≡ true → meets p j k ≡ true
-  unfolding meets isEmpty member
-  meets-of i j k l a b = go (keep t (upto (p .rows))) (member-keep t i (upto (p .rows)) ∙ rw (a, b) (member-upto (p .rows) i l))
-    where
-      t : ℕ → Bool
-      t i = covers p i j && covers p i k
-
-      go : (xs : List ℕ) → member i xs ≡ true → not (isEmpty xs) ≡ true
-      go [] m = m
-      go (x ∷ xs) m = refl
-
+  -- two columns that do not share a row
   pub apart : (i j k : ℕ) → i < p .rows → meets p j k ≡ false → covers p i k ≡ true → covers p i j ≡ false
-  apart i j k l h c = not-so (λ e. true≢false (sym (meets-of i j k l e c) ∙ h))
+  apart i j k l h c = not-so (λ e. true≢false (sym (meets-of p i j k l e c) ∙ h))
 
   -- no plan has two columns that share a row
   pub clash : (X : ℕ → Bool) → IsPlan p X → (j k : ℕ) → j < width p → k < width p → (k ≡ j → ⊥)
       → meets p j k ≡ true → X j ≡ true → X k ≡ false
-  unfolding count Shared
-  clash X h j k a b n m e = go (meets-at j k m) (X k) refl
+  unfolding count
+  clash X h j k a b n m e = go (meets-at p j k m) (X k) refl
     where
-      go : Shared j k → (x : Bool) → X k ≡ x → x ≡ false
+      go : Shared p j k → (x : Bool) → X k ≡ x → x ≡ false
       go r false g = refl
       go r true g =
           let f : ℕ → ℕ = λ l. on (X l) (on (covers p (r .0) l) 1) in

@@ -8,13 +8,13 @@ use native.Mathlib.Omega.{arith}
 use lib.ListN.{length, length-append}
 use lib.Dec.{ltb}
 use borrow.Author.Tests.{ltb-true, lt-ltb, le-ltb}
-use Rattle.rules.specs.declared.Node.{Node}
-use Rattle.rules.specs.Lists.{member, least, pick, on, total}
-use Rattle.rules.specs.Instance.{Instance, FitsNode, width, price, IsPlan}
-use Rattle.rules.specs.Node.{isFree, isOpen, root, costAt, freeColumns, freeOf, openRows}
+use Rattle.node.specs.declared.Node.{Node}
+use Rattle.node.specs.Lists.{member, least, pick, on, total}
+use Rattle.node.specs.Instance.{Instance, FitsNode, width, price, IsPlan}
+use Rattle.node.specs.Node.{isFree, isOpen, root, costAt, freeColumns, freeOf, openRows}
 use Rattle.rules.specs.Reduce.{leastOf, candidates, rowFirst, lower, Reduced, reduceOn, reduceBy, reduce}
-use Rattle.rules.proofs.Members.{kept, member-keep, pick-member, least-le, least-at, least-mono, keep-lt, keep-short}
-use Rattle.rules.proofs.Members.{keep-upto}
+use Rattle.node.proofs.Members.{kept, member-keep, pick-member, least-le, least-at, least-mono, keep-lt, keep-short}
+use Rattle.node.proofs.Members.{keep-upto}
 use Rattle.rules.proofs.Sums.{total-cong}
 use Rattle.rules.proofs.Plans.{Open, FreeIn, root-free}
 use Rattle.rules.proofs.Rows.{open-in, in-open, free-in, in-free}

@@ -5,12 +5,12 @@ use mathlib.Core.Bool.{Bool, true, false, _&&_}
 use Prim.Native.Nat.{ℕ, suc, _<_}
 use native.Mathlib.Omega.{arith}
 use lib.ListN.{length}
-use Rattle.rules.specs.declared.Node.{Node}
-use Rattle.rules.specs.Lists.{on, keep, upto, member}
-use Rattle.rules.specs.Instance.{Instance, width, covers}
-use Rattle.rules.specs.Node.{isFree, isOpen, freeColumns, freeOf, openRows}
+use Rattle.node.specs.declared.Node.{Node}
+use Rattle.node.specs.Lists.{on, keep, upto, member}
+use Rattle.node.specs.Instance.{Instance, width, covers}
+use Rattle.node.specs.Node.{isFree, isOpen, freeColumns, freeOf, openRows}
 use Rattle.rules.specs.Identity.{Completion}
-use Rattle.rules.proofs.Members.{kept, member-keep, member-upto, upto-lt, keep-upto}
+use Rattle.node.proofs.Members.{kept, member-keep, member-upto, upto-lt, keep-upto}
 use Rattle.rules.proofs.Sums.{total-zero}
 use Rattle.rules.proofs.Plans.{Open, FreeIn, Sound, rest-once}
 

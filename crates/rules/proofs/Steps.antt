@@ -7,12 +7,12 @@ use native.Mathlib.Omega.{arith}
 use lib.ListN.{length, getD}
 use lib.Dec.{eqb}
 use borrow.Author.Tests.{eqb-true, eqb-false, eq-eqb, ne-eqb}
-use Rattle.rules.specs.declared.Node.{Node}
-use Rattle.rules.specs.Lists.{on}
-use Rattle.rules.specs.Instance.{Instance, FitsNode, width, covers, meets}
-use Rattle.rules.specs.Node.{mark, isFree, isTaken, isOpen, freeColumns, take, leave}
+use Rattle.node.specs.declared.Node.{Node}
+use Rattle.node.specs.Lists.{on}
+use Rattle.node.specs.Instance.{Instance, FitsNode, width, covers, meets}
+use Rattle.node.specs.Node.{mark, isFree, isTaken, isOpen, freeColumns, take, leave}
 use Rattle.rules.specs.Identity.{Completion}
-use Rattle.rules.proofs.Members.{at-table}
+use Rattle.node.proofs.Members.{at-table}
 use Rattle.rules.proofs.Sums.{total-cong, total-zero, total-at}
 use Rattle.rules.proofs.Plans.{Free, FreeIn, Sound, not-both, apart, clash}
 use Rattle.rules.proofs.Decide.{Decided, stays, goes, joins, gained, redo, undo, decided-sound, still-free, decided-less}

@@ -4,10 +4,10 @@ use mathlib.Core.Path.{_≡_, refl, sym, _∙_}
 use mathlib.Core.Bool.{Bool, true, false, _&&_}
 use Prim.Native.Nat.{ℕ}
 use native.Mathlib.Omega.{arith}
-use Rattle.rules.specs.declared.Node.{Node}
-use Rattle.rules.specs.Lists.{on}
-use Rattle.rules.specs.Instance.{Instance, FitsNode, width, price, IsPlan}
-use Rattle.rules.specs.Node.{isFree, costAt}
+use Rattle.node.specs.declared.Node.{Node}
+use Rattle.node.specs.Lists.{on}
+use Rattle.node.specs.Instance.{Instance, FitsNode, width, price, IsPlan}
+use Rattle.node.specs.Node.{isFree, costAt}
 use Rattle.rules.specs.Reduce.{reduce}
 use Rattle.rules.specs.Tree.{joined, sum}
 use Rattle.rules.specs.Demand.{Demand3}

@@ -5,15 +5,16 @@ use mathlib.Core.Bool.{Bool, true, false}
 use Prim.Native.Nat.{ℕ, _+_, _≤_, _<_}
 use native.Mathlib.Omega.{arith}
 use lib.ListN.{length}
-use Rattle.rules.specs.declared.Node.{Node}
-use Rattle.rules.specs.Instance.{Instance, FitsNode, IsPlan, chosen}
-use Rattle.rules.specs.Node.{freeColumns, freeOf, taken, take, leave}
-use Rattle.rules.specs.Force.{Forced, force}
+use Rattle.node.specs.declared.Node.{Node}
+use Rattle.node.specs.Instance.{Instance, FitsNode, IsPlan, chosen}
+use Rattle.node.specs.Node.{freeColumns, freeOf, taken, take, leave}
+use Rattle.rules.specs.declared.Forced.{Forced}
+use Rattle.rules.specs.Force.{force}
 use Rattle.rules.specs.Tree.{Variant}
 use Rattle.rules.specs.Identity.{Completion}
 use Rattle.rules.proofs.Plans.{Open, Free, FreeIn, Sound, comp-same}
 use Rattle.rules.proofs.Rows.{size}
-use Rattle.rules.proofs.Forcing.{TwoFree, Settled, force-settles}
+use Rattle.rules.proofs.Forcing.{TwoFree, Settles, force-settles}
 
 -- an open row with free columns has one at cost 0
 abbrev pub ZeroIn : Instance → Variant → Node → Type 0
@@ -89,5 +90,5 @@ module _ (p : Instance) (F : FitsNode p) (join : Node → ℕ → ℕ) (Good : N
     (taking : (s : Node) (j : ℕ) → Free p s j → Good s → Good (take p s j (join s j))) where
   pub plain-forces : (s : Node) → Good s → Forces p (IsPlan p) Good s (force join p s)
   plain-forces s g =
-      let f : Settled p F join Good sound taking s (force join p s) = force-settles p F join Good sound taking s g in
+      let f : Settles p F join Good sound taking s (force join p s) = force-settles p F join Good sound taking s g in
       record { good = f .good; less = f .less; comp = λ X h. f .comp X; two = f .two; full = λ e h. h }

@@ -8,17 +8,17 @@ use Prim.Native.Nat.{ℕ, _+_, _≤_, _<_}
 use native.Mathlib.Omega.{arith}
 use lib.Dec.{eqb, ltb, leb}
 use borrow.Author.Tests.{eq-eqb, lt-ltb, leb-true, leb-false}
-use Rattle.rules.specs.declared.Node.{Node}
-use Rattle.rules.specs.Lists.{on, keep, upto, member, least, pick}
-use Rattle.rules.specs.Instance.{Instance, FitsNode, width, covers, count, IsPlan, chosen, Shows}
-use Rattle.rules.specs.Node.{isTaken, isOpen, freeColumns, freeOf, openRows, taken, take, leave}
+use Rattle.node.specs.declared.Node.{Node}
+use Rattle.node.specs.Lists.{on, keep, upto, member, least, pick}
+use Rattle.node.specs.Instance.{Instance, FitsNode, width, covers, count, IsPlan, chosen, Shows}
+use Rattle.node.specs.Node.{isTaken, isOpen, freeColumns, freeOf, openRows, taken, take, leave}
 use Rattle.rules.specs.Search.{Incumbent, reaches, Visit, ended, full}
 use Rattle.rules.specs.Tree.{Variant, Penalty, just, most, penaltyOf, plus, withoutBound, zeros, dearer, penalty, rowBefore}
 use Rattle.rules.specs.Tree.{columnBefore, branchOn, reduced, living, visitBy, visit}
 use Rattle.rules.specs.Identity.{Completion}
 use Rattle.rules.proofs.Walks.{Lawful, reaches-true, at-most-le}
-use Rattle.rules.proofs.Members.{not-so, member-cases, kept, member-keep, member-upto, upto-lt, keep-cong, pick-member}
-use Rattle.rules.proofs.Members.{least-le, keep-short}
+use Rattle.node.proofs.Members.{not-so, member-cases, kept, member-keep, member-upto, upto-lt, keep-cong, pick-member}
+use Rattle.node.proofs.Members.{least-le, keep-short}
 use Rattle.rules.proofs.Sums.{total-cong}
 use Rattle.rules.proofs.Plans.{Open, FreeIn, not-taken}
 use Rattle.rules.proofs.Steps.{take-comp, take-less, leave-comp, leave-out, unleave, leave-less}

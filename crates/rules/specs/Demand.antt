@@ -5,7 +5,7 @@ use mathlib.Core.Bool.{Bool, true, false}
 use mathlib.Core.List.{List}
 use mathlib.Core.Logic.{_↔_}
 use Prim.Native.Nat.{ℕ, _-_, _^_, _≤_, _<_}
-use Rattle.rules.specs.Instance.{Instance, width, Shows}
+use Rattle.node.specs.Instance.{Instance, width, Shows}
 use Rattle.rules.specs.Search.{Incumbent, plan, nodes, after, best, stopped, shownBy, nodesOf, isNone, isStopped}
 use Rattle.rules.specs.Tree.{Variant, fullTree, rootBound, answer}
 

@@ -2,9 +2,9 @@
 use mathlib.Core.Path.{_≡_, refl}
 use mathlib.Core.List.{[], _∷_, map}
 use Prim.Native.Nat.{ℕ, suc}
-use Rattle.rules.specs.Lists.{keep, from, member, leastFrom, least, pick, isEmpty, first}
-use Rattle.rules.specs.Instance.{Instance, covers, meets}
-use Rattle.rules.specs.Node.{freeColumns, freeOf, openRows, taken, root, take, leave}
+use Rattle.node.specs.Lists.{keep, from, member, leastFrom, least, pick, isEmpty, first}
+use Rattle.node.specs.Instance.{Instance, covers, meets}
+use Rattle.node.specs.Node.{freeColumns, freeOf, openRows, taken, root, take, leave}
 use Rattle.rules.specs.Force.{rowsWith, askedBy, asked, forceOn, forceBy, force}
 use Rattle.rules.specs.Reduce.{leastOf, candidates, candidate, byOrder, precedes, rowFirst, lower, reduceOn, reduceBy, reduce}
 use Rattle.rules.specs.Search.{nothing, plan, reaches, improve, second, enter, walk, after, Answer, best, none, stopped}

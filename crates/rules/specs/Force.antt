@@ -4,16 +4,13 @@ use mathlib.Core.List.{List, [], _∷_}
 use Prim.Native.Nat.{ℕ, zero, suc}
 use lib.ListN.{length}
 use lib.Dec.{eqb}
-use Rattle.rules.specs.declared.Node.{Node}
-use Rattle.rules.specs.Lists.{keep, first}
-use Rattle.rules.specs.Instance.{Instance, width}
-use Rattle.rules.specs.Node.{freeOf, openRows, take}
-
--- what the open rows ask of a node: one has no free column; none of these, and one has this column only; or all have two and more
-pub data Asked : Type 0 where
-  dead : Asked
-  forced : ℕ → Asked
-  settled : Asked
+use Rattle.node.specs.declared.Node.{Node}
+use Rattle.rules.specs.declared.Asked.{Asked}
+use Rattle.rules.specs.declared.Asked.the-variants.{Dead, Take, Settled}
+use Rattle.rules.specs.declared.Forced.{Forced}
+use Rattle.node.specs.Lists.{keep, first}
+use Rattle.node.specs.Instance.{Instance, width}
+use Rattle.node.specs.Node.{freeOf, openRows, take}
 
 -- the open rows with n free columns
 unfoldable pub rowsWith : ℕ → Instance → Node → List ℕ
@@ -21,23 +18,18 @@ rowsWith n p s = keep (λ i. eqb (length (freeOf p s i)) n) (openRows p s)
 
 -- by the rows with no free column, and those with one
 unfoldable pub askedBy : Instance → Node → List ℕ → List ℕ → Asked
-askedBy p s (i ∷ is) ks = dead
-askedBy p s [] (k ∷ ks) = forced (first (freeOf p s k))
-askedBy p s [] [] = settled
+askedBy p s (i ∷ is) ks = Dead
+askedBy p s [] (k ∷ ks) = Take (first (freeOf p s k))
+askedBy p s [] [] = Settled
 
 unfoldable pub asked : Instance → Node → Asked
 asked p s = askedBy p s (rowsWith 0 p s) (rowsWith 1 p s)
 
--- the node when nothing is forced any more, and whether it is alive
-pub record Forced : Type 0 where
-  pub node : Node
-  pub alive : Bool
-
 -- one step, and w after it: `join s j` is the bound of s with column j taken
 unfoldable pub forceOn : (Node → ℕ → ℕ) → Asked → Instance → Node → (Node → Forced) → Forced
-forceOn join dead p s w = record { node = s; alive = false }
-forceOn join (forced j) p s w = w (take p s j (join s j))
-forceOn join settled p s w = record { node = s; alive = true }
+forceOn join Dead p s w = record { node = s; alive = false }
+forceOn join (Take j) p s w = w (take p s j (join s j))
+forceOn join Settled p s w = record { node = s; alive = true }
 
 -- each column taken is free no more, so there are at most as many steps as columns
 unfoldable pub forceBy : (Node → ℕ → ℕ) → ℕ → Instance → Node → Forced

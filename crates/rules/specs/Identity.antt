@@ -2,10 +2,10 @@
 use mathlib.Core.Path.{_≡_}
 use mathlib.Core.Bool.{Bool, false, _&&_}
 use Prim.Native.Nat.{ℕ, _+_, _<_}
-use Rattle.rules.specs.declared.Node.{Node}
-use Rattle.rules.specs.Lists.{on, total}
-use Rattle.rules.specs.Instance.{Instance, width, price, IsPlan}
-use Rattle.rules.specs.Node.{isFree, isTaken, costAt}
+use Rattle.node.specs.declared.Node.{Node}
+use Rattle.node.specs.Lists.{on, total}
+use Rattle.node.specs.Instance.{Instance, width, price, IsPlan}
+use Rattle.node.specs.Node.{isFree, isTaken, costAt}
 
 -- X is a plan that agrees with the node: it has the taken columns and, besides, free ones only
 pub record Completion (p : Instance) (s : Node) (X : ℕ → Bool) : Type 0 where
@@ -19,3 +19,7 @@ rest p s X f = total (width p) (λ k. on (isFree s k && X k) (f k))
 -- every plan that agrees with the node costs its lower bound and the present costs of its free columns
 abbrev pub Identity : Instance → Node → Type 0
 Identity p s = (X : ℕ → Bool) → Completion p s X → price p X ≡ s .bound + rest p s X (costAt s)
+
+-- the bound, and the present costs of the free columns
+abbrev pub ceiling : Instance → Node → ℕ
+ceiling p s = s .bound + total (width p) (λ k. on (isFree s k) (costAt s k))

@@ -4,11 +4,11 @@ use mathlib.Core.List.{List, [], _∷_, _++_}
 use Prim.Native.Nat.{ℕ, zero, suc, _+_, _-_}
 use lib.ListN.{length}
 use lib.Dec.{eqb, ltb}
-use Rattle.rules.specs.declared.Node.{Node}
+use Rattle.node.specs.declared.Node.{Node}
 use Rattle.rules.specs.declared.Candidate.{Candidate}
-use Rattle.rules.specs.Lists.{keep, table, least, pick, on}
-use Rattle.rules.specs.Instance.{Instance, span, covers}
-use Rattle.rules.specs.Node.{isFree, freeOf, openRows, costAt}
+use Rattle.node.specs.Lists.{keep, table, least, pick, on}
+use Rattle.node.specs.Instance.{Instance, span, covers}
+use Rattle.node.specs.Node.{isFree, freeOf, openRows, costAt}
 
 -- the least present cost among a row's free columns
 unfoldable pub leastOf : Instance → Node → ℕ → ℕ

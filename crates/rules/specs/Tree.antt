@@ -5,11 +5,12 @@ use mathlib.Core.List.{List, [], _∷_}
 use Prim.Native.Nat.{ℕ, suc, _+_, _*_}
 use lib.ListN.{length}
 use lib.Dec.{eqb, ltb}
-use Rattle.rules.specs.declared.Node.{Node}
-use Rattle.rules.specs.Lists.{keep, least, pick}
-use Rattle.rules.specs.Instance.{Instance, width, span, meets}
-use Rattle.rules.specs.Node.{freeColumns, freeOf, openRows, costAt, take, leave, taken, root}
-use Rattle.rules.specs.Force.{Forced, force}
+use Rattle.node.specs.declared.Node.{Node}
+use Rattle.node.specs.Lists.{keep, least, pick}
+use Rattle.node.specs.Instance.{Instance, width, span, meets}
+use Rattle.node.specs.Node.{freeColumns, freeOf, openRows, costAt, take, leave, taken, root}
+use Rattle.rules.specs.declared.Forced.{Forced}
+use Rattle.rules.specs.Force.{force}
 use Rattle.rules.specs.Reduce.{reduce, byOrder}
 use Rattle.rules.specs.Search.{Incumbent, nothing, reaches, Visit, ended, full, split, Walk, walk, Answer, answerOf}
 

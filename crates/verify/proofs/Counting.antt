@@ -9,8 +9,8 @@ use lib.Dec.{eqb}
 use lib.ListN.{length, getD, drop, set, length-set, drop-of-length-le}
 use lib.Seq.{getD-set-same, getD-set-other}
 use Rattle.endian.proofs.Parts.{drop-step}
-use Rattle.rules.specs.Lists.{member, on}
-use Rattle.rules.specs.Instance.{Instance, body, covers}
+use Rattle.node.specs.Lists.{member, on}
+use Rattle.node.specs.Instance.{Instance, body, covers}
 use Rattle.dutyfile.specs.Faults.{rising}
 use Rattle.dutyfile.proofs.Rising.{rising-cons, rising-at}
 use Rattle.verify.specs.Counts.{counted, countedAll, tally}

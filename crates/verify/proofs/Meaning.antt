@@ -5,7 +5,7 @@ use Prim.Native.Nat.{ℕ, zero, suc, _+_, _≤_, _<_}
 use native.Mathlib.Omega.{arith}
 use borrow.Author.Tests.{eqb-true, eqb-false}
 use lib.Dec.{eqb}
-use Rattle.rules.specs.Instance.{Instance, count, price, IsPlan}
+use Rattle.node.specs.Instance.{Instance, count, price, IsPlan}
 use Rattle.verify.specs.Verdict.{Verdict, plan, notOnce, lowest, verdict}
 
 -- of m rows from row i on, row r is the lowest that is not covered once, and it is covered k times

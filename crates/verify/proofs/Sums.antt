@@ -6,7 +6,7 @@ use Prim.Native.Nat.{ℕ, zero, suc, _+_, _-_}
 use native.Mathlib.Omega.{arith}
 use borrow.Author.Tests.{eqb-true}
 use lib.Dec.{eqb, eqb·suc-suc}
-use Rattle.rules.specs.Lists.{member, on, total}
+use Rattle.node.specs.Lists.{member, on, total}
 use Rattle.rules.proofs.Sums.{total-add, total-at, total-zero}
 use Rattle.dutyfile.specs.Faults.{rising}
 use Rattle.dutyfile.proofs.Rising.{rising-cons, rising-none}

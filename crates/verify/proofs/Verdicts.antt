@@ -10,8 +10,8 @@ use borrow.Author.Tests.{eq-eqb, ne-eqb}
 use lib.ListN.{getD}
 use Rattle.refusals.specs.Refusals.{fine, accepted, refused, unless}
 use Rattle.refusals.proofs.Laws.{stops-at, goes-on, passes, fails, unless-fine, unless-fault, refuses}
-use Rattle.rules.specs.Lists.{on}
-use Rattle.rules.specs.Instance.{width, covers, count, price}
+use Rattle.node.specs.Lists.{on}
+use Rattle.node.specs.Instance.{width, covers, count, price}
 use Rattle.dutyfile.specs.File.{rowsIn, columnsIn, parse, instance, shape}
 use Rattle.dutyfile.specs.Faults.{rising, fileFault}
 use Rattle.dutyfile.proofs.Entries.{length-costs}

@@ -6,7 +6,7 @@ use Prim.Native.Nat.{ℕ, zero, suc, _+_, _*_, _-_, _≤_, _<_}
 use native.Mathlib.Omega.{arith}
 use lib.ListN.{length, getD, take, drop, replicate, drop-of-length-le}
 use Rattle.endian.proofs.Parts.{drop-step}
-use Rattle.rules.specs.Instance.{Instance, body}
+use Rattle.node.specs.Instance.{Instance, body}
 use Rattle.refusals.specs.Refusals.{fine}
 use Rattle.dutyfile.specs.declared.Entry.{Entry}
 use Rattle.dutyfile.specs.File.{rowsIn, columnsIn, bodiesAt, entryOf, parse, bodies, instance}

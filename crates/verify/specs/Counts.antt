@@ -2,7 +2,7 @@
 use mathlib.Core.List.{List, [], _∷_}
 use Prim.Native.Nat.{ℕ, _+_, _-_}
 use lib.ListN.{getD, set, replicate}
-use Rattle.rules.specs.Instance.{Instance, body}
+use Rattle.node.specs.Instance.{Instance, body}
 
 -- no row is covered
 abbrev pub noneCovered : List ℕ

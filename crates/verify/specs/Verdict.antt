@@ -3,8 +3,8 @@ use mathlib.Core.Bool.{Bool, cond}
 use mathlib.Core.List.{List}
 use Prim.Native.Nat.{ℕ, zero, suc}
 use lib.Dec.{eqb}
-use Rattle.rules.specs.Lists.{member}
-use Rattle.rules.specs.Instance.{Instance, count, price}
+use Rattle.node.specs.Lists.{member}
+use Rattle.node.specs.Instance.{Instance, count, price}
 use Rattle.refusals.specs.Refusals.{ask, _then_, Outcome, accepted, refused, unless, numberOf}
 use Rattle.dutyfile.specs.File.{columnsIn, parse, instance}
 use Rattle.dutyfile.specs.Faults.{rising, fileFault}

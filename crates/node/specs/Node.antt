@@ -6,9 +6,9 @@ use mathlib.Core.List.{List}
 use Prim.Native.Nat.{ℕ}
 use lib.ListN.{getD}
 use lib.Dec.{eqb, ltb}
-use Rattle.rules.specs.declared.Node.{Node}
-use Rattle.rules.specs.Lists.{keep, upto, table, on}
-use Rattle.rules.specs.Instance.{Instance, width, columns, covers, meets}
+use Rattle.node.specs.declared.Node.{Node}
+use Rattle.node.specs.Lists.{keep, upto, table, on}
+use Rattle.node.specs.Instance.{Instance, width, columns, covers, meets}
 
 abbrev pub mark : Node → ℕ → ℕ
 mark s j = getD (s .column) j 0

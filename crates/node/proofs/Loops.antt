@@ -6,16 +6,20 @@ use Prim.Native.Nat.{ℕ, zero, suc, _+_, _-_, _<_, min}
 use native.Mathlib.Nat.{add-zero, zero-add}
 use native.Mathlib.Numerals.{add-one}
 use native.Mathlib.Omega.{arith}
-use lib.ListN.{length, getD, length-map}
-use lib.Seq.{ext-getD}
-use Rattle.rules.specs.Lists.{keep, from, upto, table, pick, leastFrom, least}
-use Rattle.rules.proofs.Members.{at-table, length-from}
+use lib.ListN.{length, getD, drop, length-map}
+use lib.Seq.{ext-getD, drop-cons}
+use Rattle.node.specs.Lists.{keep, from, upto, table, pick, leastFrom, least}
+use Rattle.node.proofs.Members.{at-table, length-from}
 
 -- a list is a table if its entries are
 pub table-ext : (n : ℕ) (f : ℕ → ℕ) (l : List ℕ) → length l ≡ n → ((k : ℕ) → k < n → getD l k 0 ≡ f k) → l ≡ table n f
 table-ext n f l e h =
     ext-getD 0 l (table n f) (omega (arith, e, length-map (upto n) f, length-from n 0))
     (λ k m. let b : k < n = omega arith in h k b ∙ rw (at-table n f k b))
+
+-- what is left of a list from a place on
+pub drop-step : (l : List ℕ) (k : ℕ) → k < length l → drop k l ≡ getD l k 0 ∷ drop (k + 1) l
+drop-step l k h = rw (add-one k) (drop-cons l k 0 h)
 
 from-suc : (n k : ℕ) → from (suc n) k ≡ from n k ++ ((k + n) ∷ [])
 unfolding from

@@ -5,8 +5,8 @@ use mathlib.Core.Bool.{true}
 use mathlib.Core.List.{List}
 use Prim.Native.Nat.{ℕ, _+_, _-_, _≤_, _<_}
 use lib.ListN.{length, getD, take, drop}
-use Rattle.rules.specs.Lists.{keep, member, total}
-use Rattle.rules.specs.Instance.{Instance, FitsNode, width, columns, body, span, covers}
+use Rattle.node.specs.Lists.{keep, member, total}
+use Rattle.node.specs.Instance.{Instance, FitsNode, width, columns, body, span, covers}
 
 -- what the instance of an accepted file keeps to
 pub record Small (p : Instance) : Type 0 where
@@ -25,6 +25,10 @@ pub record Part (starts l : List ℕ) (k : ℕ) (part : List ℕ) : Type 0 where
   pub rises : getD starts k 0 ≤ getD starts (k + 1) 0
   pub inside : getD starts (k + 1) 0 ≤ length l
   pub is : partAt starts l k ≡ part
+
+-- the row numbers of a body are those of a node's rows
+abbrev pub Body : List ℕ → Type 0
+Body rs = (k : ℕ) → k < length rs → (1 ≤ getD rs k 0) × (getD rs k 0 ≤ 64)
 
 -- the columns that cover row i, rising
 abbrev pub rowColumns : Instance → ℕ → List ℕ

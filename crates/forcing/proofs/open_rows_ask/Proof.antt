@@ -1,0 +1,77 @@
+-- The open rows that are left give what all of them ask.
+use Prim.Native.Nat.{_-_}
+use native.Mathlib.Omega.{arith}
+use borrow.Author.Needs.{needs}
+use Rattle.forcing.proofs.Asking.{Asking, asking-start, asking-row, row-few, asking-dead, asking-open, asking-closed, asking-end}
+use Rattle.forcing.proofs.open_rows_ask.Statement.{statement}
+use Rattle.forcing.proofs.open_rows_ask.Tie as tie
+
+abbrev Inv-loop : tie.InvT-loop
+Inv-loop column row rows heads entries found₀ i₀ found i = Asking column row rows heads entries found i
+
+abbrev μ-loop : tie.MeasureT-loop
+μ-loop column row rows heads entries found₀ i₀ found i = rows - i
+
+loop-holds : tie.Need-loop-holds Inv-loop μ-loop
+loop-holds c = asking-start _ _ _ _ _ (c .before .pre)
+
+add-i : tie.Need-add-i Inv-loop μ-loop
+add-i c = omega arith
+
+element-copy-out-if1 : tie.Need-element-copy-out-if1 Inv-loop μ-loop
+element-copy-out-if1 c = row-few _ _ _ (asking-row _ _ _ _ _ _ _ (c .before .loop .inv) (c .loop-test .taken))
+
+row-asks-requires : tie.Need-row-asks-requires Inv-loop μ-loop
+row-asks-requires c κs = asking-row _ _ _ _ _ _ _ (c .before .before .before .loop .inv) (c .before .before .loop-test .taken)
+
+enum-told : tie.Need-enum-told Inv-loop μ-loop
+enum-told c = search needs
+
+returns : tie.Need-returns Inv-loop μ-loop
+returns c =
+    let a = c .before .before in
+    let l = a .before .before .before in
+    asking-dead _ _ _ _ _ _ _ (l .before .loop .inv) (l .loop-test .taken) (a .before .if1 .taken) _ (a .row-asks .ensures) (c .enum-told .given .1)
+
+sooner-of-requires : tie.Need-sooner-of-requires Inv-loop μ-loop
+sooner-of-requires c κs = search needs
+
+loop-less : tie.Need-loop-less Inv-loop μ-loop
+loop-less c = omega (arith, c .before .before .before .before .before .loop-test .taken)
+
+loop-again : tie.Need-loop-again Inv-loop μ-loop
+loop-again c =
+    let a = c .before .before in
+    let l = a .before .before .before in
+    asking-open _ _ _ _ _ _ _ (l .before .loop .inv) (l .loop-test .taken) (a .before .if1 .taken) _ _ (a .row-asks .ensures)
+    (c .sooner-of .ensures)
+
+loop-less-2 : tie.Need-loop-less-2 Inv-loop μ-loop
+loop-less-2 c = omega (arith, c .before .before .loop-test .taken)
+
+loop-again-2 : tie.Need-loop-again-2 Inv-loop μ-loop
+loop-again-2 c =
+    let l = c .before .before in
+    asking-closed _ _ _ _ _ _ _ (l .before .loop .inv) (l .loop-test .taken) (c .if1 .left)
+
+returns-2 : tie.Need-returns-2 Inv-loop μ-loop
+returns-2 c = asking-end _ _ _ _ _ _ _ (c .before .loop .inv) (c .loop-test .left)
+
+pub open-rows-ask-spec : {M : Type 1} → statement M
+open-rows-ask-spec =
+    tie.close
+    (tie.spec
+    Inv-loop
+    μ-loop
+    loop-holds
+    add-i
+    element-copy-out-if1
+    row-asks-requires
+    enum-told
+    returns
+    sooner-of-requires
+    loop-less
+    loop-again
+    loop-less-2
+    loop-again-2
+    returns-2)
