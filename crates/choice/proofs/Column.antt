@@ -17,10 +17,10 @@ use Rattle.rules.specs.Tree.{sum, zeros, sharing, columnBefore}
 use Rattle.node.proofs.Members.{kept, upto-lt, keep-short, keep-upto}
 use Rattle.rules.proofs.Sums.{total-one}
 use Rattle.node.specs.Stored.{partAt, rowColumns, ByColumn, ByRow}
-use Rattle.matrix.proofs.Members.{member-at}
-use Rattle.matrix.proofs.Parts.{part-length}
+use Rattle.node.proofs.Members.{member-at}
+use Rattle.node.proofs.Parts.{part-length}
 use Rattle.candidates.specs.Row.{view}
-use Rattle.candidates.proofs.Candidate.{free-row}
+use Rattle.node.proofs.Parts.{free-row}
 use Rattle.choice.specs.Column.{zeroIn, branchColumn, columnPrecedes, noColumn, columnFrom, columnOf, bestColumn, sharingIn, InRows, InColumns, Few}
 use Rattle.choice.proofs.Sharing.{keep-both, sharing-is}
 

@@ -13,7 +13,7 @@ use Rattle.node.specs.Instance.{Instance, width}
 use Rattle.rules.specs.Tree.{sum, columnBefore}
 use Rattle.node.proofs.Members.{kept}
 use Rattle.node.specs.Stored.{ByColumn, ByRow}
-use Rattle.matrix.proofs.Members.{member-at}
+use Rattle.node.proofs.Members.{member-at}
 use Rattle.candidates.specs.Row.{view}
 use Rattle.choice.specs.declared.BranchColumn.{BranchColumn}
 use Rattle.choice.specs.Column.{zeroIn, branchColumn, columnPrecedes, noColumn, columnOf, InColumns, Few, SomeColumn, SomeList}

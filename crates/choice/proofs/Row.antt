@@ -17,7 +17,7 @@ use Rattle.rules.specs.Tree.{sum, just, most, penaltyOf, zeros, dearer, penalty
 use Rattle.node.proofs.Members.{keep-short, keep-upto}
 use Rattle.node.specs.Stored.{partAt, ByRow}
 use Rattle.candidates.specs.Row.{view}
-use Rattle.candidates.proofs.Candidate.{free-row}
+use Rattle.node.proofs.Parts.{free-row}
 use Rattle.choice.specs.Row.{amount, penaltyAt, branchRow, precedes, noRow, tally, tallyIn}
 use Rattle.choice.proofs.Tally.{least-above}
 

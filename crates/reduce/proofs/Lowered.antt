@@ -20,7 +20,7 @@ use Rattle.node.proofs.Members.{member-keep, member-upto, upto-lt, kept, not-so
 use Rattle.node.proofs.Loops.{table-ext}
 use Rattle.rules.proofs.Plans.{FreeIn}
 use Rattle.node.specs.Stored.{Small, partAt, rowColumns, ByRow}
-use Rattle.matrix.proofs.Parts.{row-column}
+use Rattle.node.proofs.Parts.{row-column}
 use Rattle.reduce.specs.Lower.{lowerAt, Covered}
 
 -- a free column, and another one
