@@ -12,3 +12,5 @@ mod Products
 mod Sharing
 mod Column
 mod Columns
+-- Both choices of a node.
+pub mod Picked
