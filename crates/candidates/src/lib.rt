@@ -7,7 +7,7 @@ ghost use Rattle.node.specs.Instance.{Instance};
 ghost use Rattle.rules.specs.Reduce.{candidate, precedes};
 ghost use Rattle.node.specs.Stored.{ByRow};
 ghost use Rattle.candidates.specs.Row.{view, joined, tallyIn, Listed, SomeRow};
-ghost use Rattle.candidates.specs.Best.{none, better, bestOf, SomeRows};
+ghost use Rattle.candidates.specs.Best.{better, bestOf, SomeRows};
 
 // The statistics with one more free column, of a cost and a number of rows.
 fn join(a: Candidate, cost: u32, size: u32) -> Candidate

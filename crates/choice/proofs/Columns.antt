@@ -6,7 +6,7 @@ use mathlib.Core.List.{List, [], _∷_}
 use Prim.Native.Nat.{ℕ, _+_, _≤_, _<_}
 use native.Mathlib.Omega.{arith}
 use lib.ListN.{length, getD, drop, drop-of-length-le}
-use Rattle.endian.proofs.Parts.{drop-step}
+use Rattle.node.proofs.Loops.{drop-step}
 use Rattle.node.specs.declared.Node.{Node}
 use Rattle.node.specs.Lists.{keep}
 use Rattle.node.specs.Instance.{Instance, width}

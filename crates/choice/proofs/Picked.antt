@@ -3,10 +3,10 @@
 use mathlib.Core.Path.{_≡_, refl, ap}
 use mathlib.Core.List.{List, [], _∷_}
 use Prim.Native.Nat.{ℕ}
-use Rattle.rules.specs.declared.Node.{Node}
-use Rattle.rules.specs.Lists.{pick}
-use Rattle.rules.specs.Instance.{Instance}
-use Rattle.rules.specs.Node.{freeColumns, freeOf, openRows}
+use Rattle.node.specs.declared.Node.{Node}
+use Rattle.node.specs.Lists.{pick}
+use Rattle.node.specs.Instance.{Instance}
+use Rattle.node.specs.Node.{freeColumns, freeOf, openRows}
 use Rattle.rules.specs.Tree.{sum, zeros, dearer, penalty, rowBefore, sharing, columnBefore}
 use Rattle.candidates.specs.Row.{view}
 use Rattle.choice.specs.Best.{bestIn}

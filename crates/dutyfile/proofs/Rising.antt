@@ -7,7 +7,7 @@ use native.Mathlib.Omega.{arith}
 use lib.Dec.{leb, ltb}
 use borrow.Author.Tests.{lt-ltb, le-ltb, le-leb, lt-leb, ltb-true, leb-true, ne-eqb}
 use lib.ListN.{length, getD, drop, drop-of-length-le}
-use Rattle.endian.proofs.Parts.{drop-step}
+use Rattle.node.proofs.Loops.{drop-step}
 use Rattle.refusals.specs.Refusals.{fine, fault}
 use Rattle.refusals.proofs.Laws.{stops-at, goes-on, passes, fails, both, asked}
 use Rattle.node.specs.Lists.{member}

@@ -1,7 +1,7 @@
 -- What rows ask, as their columns and then the rows are read one by one; and what a node must keep to so that it can be forced.
 use mathlib.Core.Path.{_≡_}
 use mathlib.Core.List.{List, [], _∷_}
-use Prim.Native.Nat.{ℕ, _+_, _≤_, _<_}
+use Prim.Native.Nat.{ℕ, _≤_, _<_}
 use lib.ListN.{getD}
 use lib.Dec.{eqb}
 use Rattle.node.specs.declared.Node.{Node}

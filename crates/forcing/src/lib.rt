@@ -5,7 +5,7 @@ use rules::Asked;
 use rules::Forced;
 ghost use mathlib.Core.Path.{_≡_};
 ghost use mathlib.Core.List.{List};
-ghost use Prim.Native.Nat.{ℕ, _≤_, _<_};
+ghost use Prim.Native.Nat.{ℕ, _<_};
 ghost use lib.ListN.{length};
 ghost use Rattle.node.specs.declared.Node.{Node};
 ghost use Rattle.node.specs.Lists.{first};

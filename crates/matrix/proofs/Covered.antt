@@ -9,7 +9,7 @@ use lib.ListN.{length, getD, set, drop, length-set, drop-of-length-le}
 use lib.Seq.{getD-set-same, getD-set-other}
 use lib.Dec.{eqb, ltb}
 use borrow.Author.Tests.{eqb-true, eqb-false, lt-ltb, le-ltb, ltb-true, ltb-false}
-use Rattle.endian.proofs.Parts.{drop-step}
+use Rattle.node.proofs.Loops.{drop-step}
 use Rattle.node.specs.Lists.{on, member, keep, upto}
 use Rattle.node.specs.Instance.{Instance, width, body, covers}
 use Rattle.node.proofs.Members.{keep-cong, upto-lt}

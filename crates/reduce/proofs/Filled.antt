@@ -5,7 +5,7 @@ use Prim.Native.Nat.{ℕ, _+_, _≤_, _<_}
 use native.Mathlib.Numerals.{add-one}
 use lib.ListN.{length, getD, set, drop, length-set, drop-of-length-le}
 use lib.Seq.{sets}
-use Rattle.endian.proofs.Parts.{drop-step}
+use Rattle.node.proofs.Loops.{drop-step}
 use Rattle.refusals.specs.Refusals.{front}
 use Rattle.refusals.proofs.Laws.{front-sets}
 

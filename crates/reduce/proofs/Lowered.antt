@@ -10,14 +10,13 @@ use lib.ListN.{length, getD, set, drop, length-set, drop-of-length-le, List·get
 use lib.Seq.{getD-set-same, getD-set-other}
 use lib.Dec.{eqb, ltb}
 use borrow.Author.Tests.{eqb-true, eqb-false, eq-eqb, ne-eqb, ltb-true, ltb-false}
-use Rattle.endian.proofs.Parts.{drop-step}
+use Rattle.node.proofs.Loops.{drop-step, table-ext}
 use Rattle.node.specs.declared.Node.{Node}
 use Rattle.node.specs.Lists.{member, on, table}
 use Rattle.node.specs.Instance.{Instance, width, columns, covers}
 use Rattle.node.specs.Node.{isFree, costAt}
 use Rattle.rules.specs.Reduce as rules
 use Rattle.node.proofs.Members.{member-keep, member-upto, upto-lt, kept, not-so}
-use Rattle.node.proofs.Loops.{table-ext}
 use Rattle.rules.proofs.Plans.{FreeIn}
 use Rattle.node.specs.Stored.{Small, partAt, rowColumns, ByRow}
 use Rattle.node.proofs.Parts.{row-column}

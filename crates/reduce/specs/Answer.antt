@@ -3,7 +3,7 @@ use mathlib.Core.List.{List, map}
 use Prim.Native.Nat.{ℕ, suc}
 use lib.ListN.{length, take}
 use Rattle.refusals.specs.Refusals.{Fault, _then_, Outcome, accepted, refused, unless, numberOf}
-use Rattle.node.specs.Instance.{Instance, width}
+use Rattle.node.specs.Instance.{Instance}
 use Rattle.node.specs.Node.{root}
 use Rattle.rules.specs.Reduce as rules
 use Rattle.dutyfile.specs.declared.Shape.{Shape}

@@ -2,7 +2,7 @@
 use mathlib.Core.Path.{_≡_}
 use mathlib.Core.List.{List, map}
 use Prim.Native.Nat.{ℕ, suc, _≤_}
-use lib.ListN.{length, take, drop, getD}
+use lib.ListN.{length, take, getD}
 use Rattle.node.specs.declared.Node.{Node}
 use Rattle.node.specs.Lists.{table}
 use Rattle.node.specs.Instance.{Instance}

@@ -1,10 +1,10 @@
 // Reducing: the step, the loop that ends when no candidate is left, and the public call on a file.
 use candidates::best_candidate;
 use dutyfile::Shape;
+use node::Node;
 use reader::ReadAnswer;
 use refusals::Check;
 use refusals::Refusal;
-use node::Node;
 ghost use mathlib.Core.Path.{_≡_};
 ghost use mathlib.Core.List.{List};
 ghost use Prim.Native.Nat.{ℕ, _≤_, _<_};

@@ -7,7 +7,7 @@ use Rattle.node.specs.Instance.{Instance, covers, meets}
 use Rattle.node.specs.Node.{freeColumns, freeOf, openRows, taken, root, take, leave}
 use Rattle.rules.specs.Force.{rowsWith, askedBy, asked, forceOn, forceBy, force}
 use Rattle.rules.specs.Reduce.{leastOf, candidates, candidate, byOrder, precedes, rowFirst, lower, reduceOn, reduceBy, reduce}
-use Rattle.rules.specs.Search.{nothing, plan, reaches, improve, second, enter, walk, after, best, finished, answerBy}
+use Rattle.rules.specs.Search.{reaches, improve, second, enter, walk, after, best, finished, answerBy}
 use Rattle.rules.specs.Search.{answerOf}
 use Rattle.rules.specs.Tree.{penaltyOf, plus, aboveP, sameP, withoutBound, zeros, dearer, penalty, rowBefore, sharing}
 use Rattle.rules.specs.Tree.{columnBefore, branchOn, reduced, living, visitBy, visit, fullTree, boundOf, rootBound, answer}

@@ -1,5 +1,5 @@
 -- Forcing (01, Forcing): what the open rows ask of a node, and the columns taken until nothing is forced.
-use mathlib.Core.Bool.{Bool, true, false}
+use mathlib.Core.Bool.{true, false}
 use mathlib.Core.List.{List, [], _∷_}
 use Prim.Native.Nat.{ℕ, zero, suc}
 use lib.ListN.{length}

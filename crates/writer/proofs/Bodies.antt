@@ -6,7 +6,7 @@ use Prim.Native.Nat.{ℕ, _+_, _-_, _≤_, _<_}
 use native.Mathlib.Omega.{arith}
 use lib.ListN.{length, getD, take, drop, drop-of-length-le}
 use lib.Seq.{drop-drop}
-use Rattle.endian.proofs.Parts.{drop-step}
+use Rattle.node.proofs.Loops.{drop-step}
 use Rattle.refusals.specs.Refusals.{fine, fault}
 use Rattle.dutyfile.specs.File.{sum, bodies}
 use Rattle.dutyfile.specs.Faults.{rising, bodiesFault}

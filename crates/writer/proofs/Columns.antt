@@ -5,7 +5,7 @@ use Prim.Native.Nat.{ℕ, _+_, _≤_, _<_}
 use native.Mathlib.Nat.{add-assoc, add-zero, zero-add}
 use native.Mathlib.Omega.{arith}
 use lib.ListN.{length, getD, drop, drop-of-length-le}
-use Rattle.endian.proofs.Parts.{drop-step}
+use Rattle.node.proofs.Loops.{drop-step}
 use Rattle.refusals.specs.Refusals.{fine, fault, Outcome, accepted, refused, unless}
 use Rattle.refusals.proofs.Laws.{outcome-stops, outcome-goes-on}
 use Rattle.dutyfile.specs.File.{sum}

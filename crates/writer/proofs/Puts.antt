@@ -6,7 +6,8 @@ use native.Mathlib.Omega.{arith}
 use native.Mathlib.Nat.{add-assoc}
 use lib.ListN.{length, getD, drop, drop-of-length-le, length-append}
 use lib.Seq.{sets, length-sets}
-use Rattle.endian.proofs.Parts.{sets-append, drop-step}
+use Rattle.endian.proofs.Parts.{sets-append}
+use Rattle.node.proofs.Loops.{drop-step}
 use Rattle.dutyfile.specs.File.{bodiesAt, entryBytes, contents, sum}
 
 -- an entry, and the header, are written in three runs, one after the other
