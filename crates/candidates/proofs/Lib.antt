@@ -2,4 +2,5 @@ pub mod Keep
 pub mod Criteria
 pub mod Tally
 pub mod Candidate
+pub mod Zero
 pub mod Best

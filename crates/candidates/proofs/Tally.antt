@@ -1,19 +1,18 @@
 -- A row's statistics: with one more free column they are those of the columns so far with that column joined.
 use mathlib.Core.Path.{_≡_, refl, ap, sym, _∙_}
 use mathlib.Core.Bool.{Bool, true, false, false≢true}
-use mathlib.Core.List.{List, [], _∷_, _++_, append-nil}
-use Prim.Native.Nat.{ℕ, _+_, _≤_, _<_, min}
-use native.Mathlib.Numerals.{add-one}
+use mathlib.Core.List.{List, [], _∷_, _++_}
+use Prim.Native.Nat.{ℕ, _+_, _≤_, _<_}
 use native.Mathlib.Omega.{arith}
-use lib.ListN.{length, getD, take, length-append, length-take}
-use lib.Seq.{take-suc, take-all}
+use lib.ListN.{length, getD, take, length-append}
 use lib.Dec.{eqb, ltb}
 use borrow.Author.Tests.{eq-eqb, ne-eqb, lt-ltb, le-ltb, ltb-true, ltb-false, eqb-true, eqb-false}
 use Rattle.rules.specs.declared.Candidate.{Candidate}
 use Rattle.node.specs.Lists.{keep, member, least, leastFrom}
 use Rattle.node.proofs.Members.{member-keep, least-le, least-at, keep-short}
-use Rattle.node.proofs.Loops.{keep-append}
-use Rattle.candidates.specs.Row.{tallyAt, tally, joined, spanIn, tallyIn, Listed}
+use Rattle.node.proofs.Loops.{keep-more, keep-same}
+use Rattle.node.proofs.Passes.{Telling, telling-start, telling-few, telling-in, telling-out, telling-end}
+use Rattle.candidates.specs.Row.{tallyAt, tally, joined, spanIn, tallyIn}
 use Rattle.candidates.proofs.Keep.{keep-none, least-more}
 
 module _ (f z : ℕ → ℕ) (x i : ℕ) where
@@ -29,18 +28,9 @@ module _ (f z : ℕ → ℕ) (x i : ℕ) where
         let n : keep (λ j. eqb (f j) (f x)) js ≡ [] =
         keep-none (λ j. eqb (f j) (f x)) js (λ k m. ne-eqb (f k) (f x) (λ q. omega (arith, least-le f js k m))) in
         let k : keep (λ j. eqb (f j) (f x)) (js ++ (x ∷ [])) ≡ x ∷ [] =
-        keep-append (λ j. eqb (f j) (f x)) js (x ∷ []) ∙ rw (n, eq-eqb (f x) (f x) refl) in
+        keep-more (λ j. eqb (f j) (f x)) js x (eq-eqb (f x) (f x) refl) ∙ rw n in
         rw (ne-eqb (length js) 0 (λ q. omega arith), lt-ltb (f x) (least f js) h)
         (sym (ap (tallyAt f z (js ++ (x ∷ [])) i) e ∙ rw (k, length-append js (x ∷ []))))
-
-    -- the columns at cost c, with one more column
-    more-at : (c : ℕ) → eqb (f x) c ≡ true → keep (λ j. eqb (f j) c) (js ++ (x ∷ [])) ≡ keep (λ j. eqb (f j) c) js ++ (x ∷ [])
-    unfolding keep
-    more-at c e = keep-append (λ j. eqb (f j) c) js (x ∷ []) ∙ rw e
-
-    same-at : (c : ℕ) → eqb (f x) c ≡ false → keep (λ j. eqb (f j) c) (js ++ (x ∷ [])) ≡ keep (λ j. eqb (f j) c) js
-    unfolding keep
-    same-at c e = keep-append (λ j. eqb (f j) c) js (x ∷ []) ∙ rw e (append-nil (keep (λ j. eqb (f j) c) js))
 
     -- some column has the least cost
     some-least : 0 < length (keep (λ j. eqb (f j) (least f js)) js)
@@ -66,7 +56,7 @@ module _ (f z : ℕ → ℕ) (x i : ℕ) where
         rw (ne-eqb (length js) 0 (λ q. omega arith), le-ltb (f x) m (omega arith), eq-eqb (f x) m h)
         (sym (ap (tallyAt f z (js ++ (x ∷ [])) i) e
         ∙ rw (
-          more-at m (eq-eqb (f x) m h),
+          keep-more (λ j. eqb (f j) m) js x (eq-eqb (f x) m h),
           length-append js (x ∷ []),
           length-append (keep (λ j. eqb (f j) m) js) (x ∷ []),
           least-more z (keep (λ j. eqb (f j) m) js) x some-least,
@@ -79,7 +69,7 @@ module _ (f z : ℕ → ℕ) (x i : ℕ) where
         let n : eqb (f x) m ≡ false = ne-eqb (f x) m (λ q. omega arith) in
         let e : least f (js ++ (x ∷ [])) ≡ m = omega (arith, least-more f js x some) in
         rw (ne-eqb (length js) 0 (λ q. omega arith), le-ltb (f x) m (omega arith), n)
-        (sym (ap (tallyAt f z (js ++ (x ∷ [])) i) e ∙ rw (same-at m n, length-append js (x ∷ []))))
+        (sym (ap (tallyAt f z (js ++ (x ∷ [])) i) e ∙ rw (keep-same (λ j. eqb (f j) m) js x n, length-append js (x ∷ []))))
 
   tally-more : (js : List ℕ) → joined (tally f z js i) (f x) (z x) ≡ tally f z (js ++ (x ∷ [])) i
   tally-more [] = more-first
@@ -93,69 +83,35 @@ module _ (f z : ℕ → ℕ) (x i : ℕ) where
           let n : f x ≡ least f (y ∷ ys) → ⊥ = eqb-false _ _ q in
           above (y ∷ ys) (omega arith) (omega (arith, ltb-false (f x) (least f (y ∷ ys)) p))
 
--- the fewer rows of two columns
-pub fewer-left : (x y : ℕ) → x ≤ y → min x y ≡ x
-fewer-left x y h = omega arith
-
-pub fewer-right : (x y : ℕ) → y < x → min x y ≡ y
-fewer-right x y h = omega arith
-
 -- at column k of a row
 pub record Tallying (cost column starts row : List ℕ) (i : ℕ) (found : Candidate) (k : ℕ) : Type 0 where
-  pub listed : Listed starts row
-  pub within : k ≤ length row
-  pub is : found ≡ tallyIn cost column starts (take k row) i
+  pub so-far : Telling (λ js. tally (λ j. getD cost j 0) (spanIn starts) js i) (λ j. eqb (getD column j 0) 1) row found k
 
-pub tallying-start : (cost column starts row : List ℕ) (i : ℕ) → Listed starts row →
+pub tallying-start : (cost column starts row : List ℕ) (i : ℕ) →
     Tallying cost column starts row i (record { free = 0; ties = 0; cost = 0; short = 0; row = i }) 0
 unfolding tallyAt keep least
-tallying-start cost column starts row i l = record { listed = l; within = omega arith; is = refl }
+tallying-start cost column starts row i = record { so-far = telling-start _ _ row }
 
 module _ (cost column starts row : List ℕ) (i : ℕ) (found : Candidate) (k : ℕ) (w : Tallying cost column starts row i found k) where
   module _ (inside : k < length row) where
-    pub tallying-few : (found .free < 4096) × (found .ties ≤ found .free)
+    pub tallying-few : length row ≤ 4096 → (found .free < 4096) × (found .ties ≤ found .free)
     unfolding tallyAt
-    tallying-few =
+    tallying-few h =
         let js : List ℕ = keep (λ j. eqb (getD column j 0) 1) (take k row) in
         let f : ℕ → ℕ = λ j. getD cost j 0 in
-        let n : length (take k row) ≤ k = simp length-take (omega arith) in (
-          rw (w .is) (omega (arith, keep-short (λ j. eqb (getD column j 0) 1) (take k row), w .listed .few)),
-          rw (w .is) (keep-short (λ j. eqb (f j) (least f js)) js),
-        )
-
-    more : take (k + 1) row ≡ take k row ++ (getD row k 0 ∷ [])
-    more = rw add-one (take-suc row k 0 inside)
+        let e = w .so-far .is in
+        (rw e (omega (arith, telling-few _ _ row found k (w .so-far) inside)), rw e (keep-short (λ j. eqb (f j) (least f js)) js))
 
     pub tallying-free : getD column (getD row k 0) 0 ≡ 1 → (next : Candidate) →
         next ≡ joined found (getD cost (getD row k 0) 0) (spanIn starts (getD row k 0)) → Tallying cost column starts row i next (k + 1)
-    unfolding keep
-    tallying-free h next told =
-        let t : ℕ → Bool = λ j. eqb (getD column j 0) 1 in
-        let x : ℕ = getD row k 0 in
-        let js : List ℕ = keep t (take k row) in
-        let e : keep t (take (k + 1) row) ≡ js ++ (x ∷ []) = rw more (keep-append t (take k row) (x ∷ []) ∙ rw (eq-eqb (getD column x 0) 1 h)) in
-        record {
-          listed = w .listed;
-          within = omega arith;
-          is =
-              told ∙ ap (λ (a : Candidate). joined a (getD cost x 0) (spanIn starts x)) (w .is)
-              ∙ tally-more (λ j. getD cost j 0) (spanIn starts) x i js
-              ∙ ap (λ (l : List ℕ). tally (λ j. getD cost j 0) (spanIn starts) l i) (sym e);
-        }
+    tallying-free h next e = record {
+      so-far =
+          telling-in _ _ row found k (w .so-far) inside (λ a x. joined a (getD cost x 0) (spanIn starts x))
+          (λ js x. tally-more (λ j. getD cost j 0) (spanIn starts) x i js) (eq-eqb _ 1 h) next e;
+    }
 
     pub tallying-other : (getD column (getD row k 0) 0 ≡ 1 → ⊥) → Tallying cost column starts row i found (k + 1)
-    unfolding keep
-    tallying-other h =
-        let t : ℕ → Bool = λ j. eqb (getD column j 0) 1 in
-        let x : ℕ = getD row k 0 in
-        let js : List ℕ = keep t (take k row) in
-        let e : keep t (take (k + 1) row) ≡ js =
-        rw more (keep-append t (take k row) (x ∷ []) ∙ rw (ne-eqb (getD column x 0) 1 h) (append-nil js)) in
-        record {
-          listed = w .listed;
-          within = omega arith;
-          is = w .is ∙ ap (λ (l : List ℕ). tally (λ j. getD cost j 0) (spanIn starts) l i) (sym e);
-        }
+    tallying-other h = record { so-far = telling-out _ _ row found k (w .so-far) inside (ne-eqb _ 1 h) }
 
   pub tallying-end : length row ≤ k → found ≡ tallyIn cost column starts row i
-  tallying-end h = w .is ∙ ap (λ (l : List ℕ). tallyIn cost column starts l i) (take-all k row h)
+  tallying-end h = telling-end _ _ row found k (w .so-far) h

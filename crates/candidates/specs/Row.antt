@@ -1,5 +1,5 @@
 -- A row's statistics, as its columns are read one by one.
-use mathlib.Core.Bool.{cond}
+use mathlib.Core.Bool.{Bool, cond, _&&_}
 use mathlib.Core.List.{List}
 use Prim.Native.Nat.{ℕ, _+_, _-_, _≤_, _<_, min}
 use lib.ListN.{length, getD}
@@ -13,6 +13,10 @@ use Rattle.node.specs.Stored.{ByRow}
 -- the node that arrays belong to, with any bound
 abbrev pub view : List ℕ → List ℕ → List ℕ → Node
 view cost column row = record { cost = cost; column = column; row = row; bound = 0 }
+
+-- column j is free and at cost 0
+abbrev pub zeroIn : List ℕ → List ℕ → ℕ → Bool
+zeroIn cost column j = eqb (getD column j 0) 1 && eqb (getD cost j 0) 0
 
 -- what the criteria look at in row i, with js its free columns, f their costs, z how many rows each covers, and c the least cost
 unfoldable pub tallyAt : (ℕ → ℕ) → (ℕ → ℕ) → List ℕ → ℕ → ℕ → Candidate
@@ -47,7 +51,7 @@ pub record Listed (starts row : List ℕ) : Type 0 where
   pub few : length row ≤ 4096
   pub bodies : (k : ℕ) → k < length row → (getD starts (getD row k 0) 0 ≤ getD starts (getD row k 0 + 1) 0) × (spanIn starts (getD row k 0) ≤ 4096)
 
--- some instance with more than i rows is kept by rows so
+-- some instance with more than i rows is kept by rows so, with these starts
 pub record SomeRow (starts heads entries : List ℕ) (i : ℕ) : Type 0 where
   pub p : Instance
   pub kept : ByRow p starts heads entries

@@ -1,4 +1,5 @@
 // Row statistics, the comparison of two candidates by 01's five criteria, and the best candidate of a node.
+use node::row_part;
 use rules::Candidate;
 ghost use mathlib.Core.Path.{_≡_};
 ghost use Prim.Native.Nat.{_≤_, _<_};
@@ -7,7 +8,7 @@ ghost use Rattle.node.specs.Instance.{Instance};
 ghost use Rattle.rules.specs.Reduce.{candidate, precedes};
 ghost use Rattle.node.specs.Stored.{ByRow};
 ghost use Rattle.candidates.specs.Row.{view, joined, tallyIn, Listed, SomeRow};
-ghost use Rattle.candidates.specs.Best.{better, bestOf, SomeRows};
+ghost use Rattle.candidates.specs.Best.{better, bestOf, hasZero, SomeRows};
 
 // The statistics with one more free column, of a cost and a number of rows.
 fn join(a: Candidate, cost: u32, size: u32) -> Candidate
@@ -101,9 +102,8 @@ pub fn row_candidate(
     requires { ⌜ SomeRow (now starts) (now heads) (now entries) i ⌝ }
     ensures { λ r. ⌜ ((p : Instance) → ByRow p (now (starts .entry)) (now (heads .entry)) (now (entries .entry)) → i < p .rows → r ≡ candidate p (view (now (cost .entry)) (now (column .entry)) []) i) ⌝ }
 {
-    let start = heads[i] as usize;
-    let end = heads[i + 1] as usize;
-    statistics(cost, column, starts, &entries[start..end], i as u32)
+    let row = row_part(heads, entries, i);
+    statistics(cost, column, starts, row, i as u32)
 }
 
 // Whether candidate a comes before candidate b, by 01's criteria 1 to 5 in turn.
@@ -141,6 +141,23 @@ fn better_of(a: Candidate, b: Candidate) -> Candidate
     a
 }
 
+// Whether one of some columns is free and at cost 0.
+fn has_zero(cost: &[u32; 256], column: &[u8; 256], columns: &[u8]) -> bool
+    ensures { λ r. ⌜ r ≡ hasZero (now (cost .entry)) (now (column .entry)) (now (columns .entry)) ⌝ }
+{
+    let mut k = 0;
+    while k < columns.len() {
+        let found = columns[k] as usize;
+        k += 1;
+        if column[found] == 1 {
+            if cost[found] == 0 {
+                return true;
+            }
+        }
+    }
+    false
+}
+
 // The row that the next reducing step uses, in one pass over the open rows; its cost is 0 where there is no candidate.
 pub fn best_candidate<'a>(
     cost: &'a [u32; 256],
@@ -166,8 +183,11 @@ pub fn best_candidate<'a>(
         let at = i;
         i += 1;
         if row[at] == 1 {
-            let found = row_candidate(cost, column, starts, heads, entries, at);
-            best = better_of(best, found);
+            let columns = row_part(heads, entries, at);
+            if !has_zero(cost, column, columns) {
+                let found = row_candidate(cost, column, starts, heads, entries, at);
+                best = better_of(best, found);
+            }
         }
     }
     best

@@ -13,9 +13,9 @@ use Rattle.node.specs.Lists.{keep, least}
 use Rattle.node.specs.Instance.{Instance, width, columns, covers}
 use Rattle.node.specs.Node.{isFree, costAt, freeColumns, freeOf}
 use Rattle.rules.specs.Reduce.{byOrder}
-use Rattle.rules.specs.Tree.{sum, just, most, penaltyOf, zeros, dearer, penalty, rowBefore}
+use Rattle.rules.specs.Tree.{sum, just, penaltyOf, zeros, dearer, penalty, rowBefore}
 use Rattle.node.proofs.Members.{keep-short, keep-upto}
-use Rattle.node.specs.Stored.{partAt, ByRow}
+use Rattle.node.specs.Stored.{rowColumns}
 use Rattle.candidates.specs.Row.{view}
 use Rattle.node.proofs.Parts.{free-row}
 use Rattle.choice.specs.Row.{amount, penaltyAt, branchRow, precedes, noRow, tally, tallyIn}
@@ -64,14 +64,9 @@ module _ (p : Instance) (s : Node) where
       ) in
       rw (lt-ltb (length (zeros (sum p) p s i)) 257 l)
 
-module _ (p : Instance) (starts heads entries : List ℕ) (k : ByRow p starts heads entries) (i : ℕ) (l : i < p .rows) where
-  -- a row is a part of the entries
-  pub row-few : length (partAt heads entries i) ≤ 4096
-  row-few = rw (k .row i l .is) (omega (arith, keep-upto (covers p i) (width p), k .small .fits .wide))
-
-  pub row-is : (cost column : List ℕ) → tallyIn cost column (partAt heads entries i) i ≡ branchRow p (view cost column []) i
-  row-is cost column =
-      let s : Node = view cost column [] in
-      ap (λ (r : List ℕ). tallyIn cost column r i) (k .row i l .is)
-      ∙ ap (λ (r : List ℕ). tally (costAt s) r i) (sym (free-row p s i))
-      ∙ tally-row p s i
+-- the columns of a row
+pub row-is : (p : Instance) (i : ℕ) (cost column row : List ℕ) → row ≡ rowColumns p i →
+    tallyIn cost column row i ≡ branchRow p (view cost column []) i
+row-is p i cost column row is =
+    let s : Node = view cost column [] in
+    ap (λ (r : List ℕ). tallyIn cost column r i) is ∙ ap (λ (r : List ℕ). tally (costAt s) r i) (sym (free-row p s i)) ∙ tally-row p s i

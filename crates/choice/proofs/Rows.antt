@@ -1,23 +1,19 @@
 -- The choice of the row: the open rows that are left, looked at one by one, give the row that is picked from all open rows.
-use mathlib.Core.Path.{_≡_, refl, ap, sym, _∙_}
-use mathlib.Core.List.{List, [], _∷_}
-use Prim.Native.Nat.{ℕ, _+_, _-_, _≤_, _<_}
-use native.Mathlib.Nat.{sub-zero}
+use mathlib.Core.Path.{_≡_, refl, _∙_}
+use mathlib.Core.List.{List, []}
+use Prim.Native.Nat.{ℕ, _+_, _≤_, _<_}
 use native.Mathlib.Omega.{arith}
 use lib.ListN.{getD}
-use borrow.Author.Tests.{eq-eqb, ne-eqb}
 use Rattle.node.specs.declared.Node.{Node}
-use Rattle.node.specs.Lists.{keep, from}
+use Rattle.node.specs.Passes.{better, follow}
 use Rattle.node.specs.Instance.{Instance}
 use Rattle.node.specs.Node.{freeColumns, freeOf, openRows}
 use Rattle.rules.specs.Tree.{sum, zeros, dearer, penalty, rowBefore}
-use Rattle.node.proofs.Loops.{from-next}
-use Rattle.node.specs.Stored.{ByRow}
+use Rattle.node.proofs.Passes.{openFrom, open-all, carry-open, carry-closed, carry-none, follow-all}
+use Rattle.node.specs.Stored.{ByRow, SomeRows}
 use Rattle.candidates.specs.Row.{view}
-use Rattle.candidates.proofs.Best.{openFrom}
 use Rattle.choice.specs.declared.BranchRow.{BranchRow}
-use Rattle.choice.specs.Row.{branchRow, precedes, noRow, bestRow, SomeRows}
-use Rattle.choice.proofs.Best.{better, follow, follow-none}
+use Rattle.choice.specs.Row.{branchRow, precedes, noRow, bestRow}
 use Rattle.choice.proofs.Row.{same-order, before-none}
 
 -- at row i
@@ -29,14 +25,13 @@ pub record Choosing (cost column row : List ℕ) (rows : ℕ) (heads entries : L
 
 pub choosing-start : (cost column row : List ℕ) (rows : ℕ) (heads entries : List ℕ) → SomeRows rows heads entries →
     Choosing cost column row rows heads entries noRow 0
-unfolding openRows
 choosing-start cost column row rows heads entries k = record {
   some = k;
   within = omega arith;
   left = λ p starts e h.
       let s : Node = view cost column row in
-      rw (sub-zero, e)
-      (follow-none (branchRow p s) precedes (rowBefore (sum p) p s) (same-order p s) noRow (openRows p s)
+      rw (open-all p s rows e)
+      (follow-all (branchRow p s) precedes (rowBefore (sum p) p s) (same-order p s) noRow (openRows p s)
       (λ i m. before-none p s (h .small .fits .wide) i));
 }
 
@@ -54,33 +49,22 @@ module _ (cost column row : List ℕ) (rows : ℕ) (heads entries : List ℕ) (b
     pub choosing-open : getD row i 0 ≡ 1 → (found next : BranchRow) →
         ((p : Instance) (starts : List ℕ) → ByRow p starts heads entries → i < p .rows → found ≡ branchRow p (view cost column []) i) →
         next ≡ better precedes best found → Choosing cost column row rows heads entries next (i + 1)
-    unfolding keep follow
     choosing-open h found next told is = record {
       some = w .some;
       within = omega arith;
       left = λ p starts e k.
           let s : Node = view cost column row in
-          let o : openFrom rows s i ≡ i ∷ openFrom rows s (i + 1) = rw (from-next rows i inside, eq-eqb (getD row i 0) 1 h) in
           let c : found ≡ branchRow p s i = told p starts k (omega arith) ∙ same-row p cost column row i in
-          rw (is, c) (sym (ap (follow (branchRow p s) precedes best) o) ∙ w .left p starts e k);
+          rw (is, c) (carry-open (λ b x. better precedes b (branchRow p s x)) rows s best i inside h ∙ w .left p starts e k);
     }
 
     pub choosing-closed : (getD row i 0 ≡ 1 → ⊥) → Choosing cost column row rows heads entries best (i + 1)
-    unfolding keep
     choosing-closed h = record {
       some = w .some;
       within = omega arith;
-      left = λ p starts e k.
-          let s : Node = view cost column row in
-          let o : openFrom rows s i ≡ openFrom rows s (i + 1) = rw (from-next rows i inside, ne-eqb (getD row i 0) 1 h) in
-          sym (ap (follow (branchRow p s) precedes best) o) ∙ w .left p starts e k;
+      left = λ p starts e k. carry-closed _ rows (view cost column row) best i inside h ∙ w .left p starts e k;
     }
 
   pub choosing-end : rows ≤ i → (p : Instance) (starts : List ℕ) → rows ≡ p .rows → ByRow p starts heads entries →
       best ≡ bestRow p (view cost column row)
-  unfolding keep from follow
-  choosing-end h p starts e k =
-      let s : Node = view cost column row in
-      let z : rows - i ≡ 0 = omega arith in
-      let o : openFrom rows s i ≡ [] = rw z in
-      sym (ap (follow (branchRow p s) precedes best) o) ∙ w .left p starts e k
+  choosing-end h p starts e k = carry-none _ rows (view cost column row) best i h ∙ w .left p starts e k

@@ -1,3 +1,1 @@
-pub mod Best
 pub mod Row
-pub mod Column

@@ -1,19 +1,17 @@
 -- The choice of the row (01, The tree: choose an open sailing).
-use mathlib.Core.Path.{_≡_}
 use mathlib.Core.Bool.{Bool, cond}
 use mathlib.Core.List.{List}
-use Prim.Native.Nat.{ℕ, zero, suc, _+_, _<_, min}
+use Prim.Native.Nat.{ℕ, zero, suc, _+_, min}
 use lib.ListN.{length, getD}
 use lib.Dec.{eqb, ltb}
 use Rattle.node.specs.declared.Node.{Node}
 use Rattle.node.specs.Lists.{keep, least}
+use Rattle.node.specs.Passes.{bestIn}
 use Rattle.node.specs.Instance.{Instance}
 use Rattle.node.specs.Node.{freeOf, openRows}
 use Rattle.rules.specs.Reduce.{byOrder}
 use Rattle.rules.specs.Tree.{sum, Penalty, just, most, aboveP, sameP, zeros, penalty, rowBefore}
-use Rattle.node.specs.Stored.{ByRow}
 use Rattle.choice.specs.declared.BranchRow.{BranchRow}
-use Rattle.choice.specs.Best.{bestIn}
 
 -- a penalty as a number: no penalty is the number 0, so 0 stands for the one above any number
 unfoldable pub amount : Penalty → ℕ
@@ -72,16 +70,3 @@ joined a c =
 -- of row i, whose columns are given
 abbrev pub tallyIn : List ℕ → List ℕ → List ℕ → ℕ → BranchRow
 tallyIn cost column row i = tally (λ j. getD cost j 0) (keep (λ j. eqb (getD column j 0) 1) row) i
-
--- some instance with more than i rows, or with so many, is kept by rows so
-pub record SomeRow (heads entries : List ℕ) (i : ℕ) : Type 0 where
-  pub p : Instance
-  pub starts : List ℕ
-  pub kept : ByRow p starts heads entries
-  pub row : i < p .rows
-
-pub record SomeRows (rows : ℕ) (heads entries : List ℕ) : Type 0 where
-  pub p : Instance
-  pub starts : List ℕ
-  pub rows-is : rows ≡ p .rows
-  pub kept : ByRow p starts heads entries

@@ -1,17 +1,15 @@
-// The choice of the row and of the column to branch on, and the bound of the branch without the column.
+// The choice of the row to branch on, and the bound of the branch without the column.
+use node::row_part;
 ghost use mathlib.Core.Path.{_≡_};
 ghost use mathlib.Core.List.{List, []};
-ghost use mathlib.Core.Bool.{_&&_};
 ghost use Prim.Native.Nat.{ℕ, _+_, _≤_, _<_};
-ghost use lib.Dec.{eqb};
-ghost use lib.ListN.{length, getD};
-ghost use Rattle.node.specs.Instance.{Instance, width};
+ghost use lib.ListN.{length};
+ghost use Rattle.node.specs.Instance.{Instance};
 ghost use Rattle.node.specs.declared.Node.{Node};
 ghost use Rattle.rules.specs.Tree.{sum, aboveP, zeros, penalty, withoutBound};
-ghost use Rattle.node.specs.Stored.{ByColumn, ByRow};
+ghost use Rattle.node.specs.Stored.{ByRow, SomeRow, SomeRows};
 ghost use Rattle.candidates.specs.Row.{view};
-ghost use Rattle.choice.specs.Row.{penaltyAt, branchRow, precedes, bestRow, lowerPenalty, joined, tallyIn, SomeRow, SomeRows};
-ghost use Rattle.choice.specs.Column.{zeroIn, Counted, InRows, InColumns, sharingIn, branchColumn, columnPrecedes, columnOf, bestColumn, Few, SomeBody, SomeColumn, SomeList, SomeBoth};
+ghost use Rattle.choice.specs.Row.{penaltyAt, branchRow, precedes, bestRow, lowerPenalty, joined, tallyIn};
 
 // What the choice of the row looks at in an open row.
 pub struct BranchRow {
@@ -93,9 +91,8 @@ fn row_statistics(
     requires { ⌜ SomeRow (now heads) (now entries) i ⌝ }
     ensures { λ r. ⌜ ((p : Instance) (starts : List ℕ) → ByRow p starts (now (heads .entry)) (now (entries .entry)) → i < p .rows → r ≡ branchRow p (view (now (cost .entry)) (now (column .entry)) []) i) ⌝ }
 {
-    let start = heads[i] as usize;
-    let end = heads[i + 1] as usize;
-    statistics(cost, column, &entries[start..end], i as u32)
+    let row = row_part(heads, entries, i);
+    statistics(cost, column, row, i as u32)
 }
 
 // Whether penalty a is above penalty b.
@@ -168,164 +165,4 @@ pub fn without_bound(bound: u32, a: BranchRow) -> u32
         return bound + a.penalty;
     }
     bound
-}
-
-// Whether a column is free and at cost 0.
-fn is_zero(mark: u8, cost: u32) -> bool
-    ensures { λ r. ⌜ r ≡ (eqb mark 1 && eqb cost 0) ⌝ }
-{
-    if mark != 1 {
-        return false;
-    }
-    cost == 0
-}
-
-// Marks the free columns of a row at cost 0 as seen, and counts those that were not.
-fn mark_row(cost: &[u32; 256], column: &[u8; 256], row: &[u8], seen: &mut [u8; 256]) -> u32
-    requires { ⌜ (length (now row) ≤ 4096) × (length (now seen) ≡ 256) ⌝ }
-    ensures { λ r. ⌜ Counted (zeroIn (now (cost .entry)) (now (column .entry))) (now (row .entry)) (now (seen .entry)) (now (seen .exit)) r ⌝ }
-{
-    let mut count = 0;
-    let mut k = 0;
-    while k < row.len() {
-        let j = row[k] as usize;
-        k += 1;
-        if is_zero(column[j], cost[j]) {
-            if seen[j] == 0 {
-                seen[j] = 1;
-                count += 1;
-            }
-        }
-    }
-    count
-}
-
-// No column seen.
-fn none_seen() -> [u8; 256]
-    ensures { λ r. ⌜ ((k : ℕ) → k < 256 → getD r k 0 ≡ 0) ⌝ }
-{
-    [0u8; 256]
-}
-
-// How many free columns at cost 0 cover one of the rows of a body, each counted once.
-fn count_sharing(
-    cost: &[u32; 256],
-    column: &[u8; 256],
-    heads: &[u16; 65],
-    entries: &[u8],
-    body: &[u8],
-) -> u32
-    requires { ⌜ SomeBody (now heads) (now entries) (now body) ⌝ }
-    ensures { λ r. ⌜ ((p : Instance) (starts : List ℕ) → ByRow p starts (now (heads .entry)) (now (entries .entry)) → InRows p (now (body .entry)) → r ≡ sharingIn p (zeroIn (now (cost .entry)) (now (column .entry))) (now (body .entry))) ⌝ }
-{
-    let mut seen = none_seen();
-    let mut count = 0;
-    let mut k = 0;
-    while k < body.len() {
-        let i = body[k] as usize - 1;
-        k += 1;
-        let start = heads[i] as usize;
-        let end = heads[i + 1] as usize;
-        count += mark_row(cost, column, &entries[start..end], &mut seen);
-    }
-    count
-}
-
-// What the choice of the column looks at in a column.
-pub struct BranchColumn {
-    // How many free columns at cost 0 share a row with it, itself included (01: C).
-    pub share: u32,
-    // How many rows it covers (01: s).
-    pub size: u32,
-    // The column, from 0.
-    pub column: u32,
-}
-
-// What the choice looks at in a column of a matrix.
-fn column_statistics(
-    cost: &[u32; 256],
-    column: &[u8; 256],
-    starts: &[u16; 257],
-    numbers: &[u8],
-    heads: &[u16; 65],
-    entries: &[u8],
-    j: usize,
-) -> BranchColumn
-    requires { ⌜ SomeColumn (now starts) (now numbers) (now heads) (now entries) j ⌝ }
-    ensures { λ r. ⌜ ((p : Instance) → ByColumn p (now (starts .entry)) (now (numbers .entry)) → ByRow p (now (starts .entry)) (now (heads .entry)) (now (entries .entry)) → j < width p → r ≡ branchColumn p (view (now (cost .entry)) (now (column .entry)) []) j) ⌝ }
-{
-    let start = starts[j] as usize;
-    let end = starts[j + 1] as usize;
-    let share = count_sharing(cost, column, heads, entries, &numbers[start..end]);
-    BranchColumn {
-        share: share,
-        size: (end - start) as u32,
-        column: j as u32,
-    }
-}
-
-// Whether column a comes before column b: the lesser share / size, by products.
-pub fn column_precedes(a: BranchColumn, b: BranchColumn) -> bool
-    requires { ⌜ Few a × Few b ⌝ }
-    ensures { λ r. ⌜ r ≡ columnPrecedes a b ⌝ }
-{
-    a.share * b.size < b.share * a.size
-}
-
-// The column to branch on among the columns of a row.
-fn column_in(
-    cost: &[u32; 256],
-    column: &[u8; 256],
-    starts: &[u16; 257],
-    numbers: &[u8],
-    heads: &[u16; 65],
-    entries: &[u8],
-    row: &[u8],
-) -> BranchColumn
-    requires { ⌜ SomeList (now starts) (now numbers) (now heads) (now entries) (now row) ⌝ }
-    ensures { λ r. ⌜ ((p : Instance) → ByColumn p (now (starts .entry)) (now (numbers .entry)) → ByRow p (now (starts .entry)) (now (heads .entry)) (now (entries .entry)) → InColumns p (now (row .entry)) → r ≡ columnOf p (now (cost .entry)) (now (column .entry)) (now (row .entry))) ⌝ }
-{
-    let mut best = BranchColumn {
-        share: 1,
-        size: 0,
-        column: 0,
-    };
-    let mut k = 0;
-    while k < row.len() {
-        let j = row[k] as usize;
-        k += 1;
-        if is_zero(column[j], cost[j]) {
-            let found = column_statistics(cost, column, starts, numbers, heads, entries, j);
-            if column_precedes(found, best) {
-                best = found;
-            }
-        }
-    }
-    best
-}
-
-// The column to branch on, of the free columns of row i at cost 0. Where there are none its size is 0, which no column has.
-pub fn branch_column<'a>(
-    cost: &'a [u32; 256],
-    column: &'a [u8; 256],
-    starts: &[u16; 257],
-    numbers: &[u8],
-    heads: &[u16; 65],
-    entries: &[u8],
-    i: usize,
-) -> BranchColumn
-    requires { ⌜ SomeBoth (now starts) (now numbers) (now heads) (now entries) i ⌝ }
-    ensures { λ r. ⌜ ((p : Instance) → ByColumn p (now (starts .entry)) (now (numbers .entry)) → ByRow p (now (starts .entry)) (now (heads .entry)) (now (entries .entry)) → i < p .rows → r ≡ bestColumn p (view (now (cost .entry)) (now (column .entry)) []) i) ⌝ }
-{
-    let start = heads[i] as usize;
-    let end = heads[i + 1] as usize;
-    column_in(
-        cost,
-        column,
-        starts,
-        numbers,
-        heads,
-        entries,
-        &entries[start..end],
-    )
 }

@@ -4,8 +4,6 @@ use reader::ReadAnswer;
 use refusals::Refusal;
 use verify::CheckAnswer;
 use writer::WriteAnswer;
-ghost use Prim.Native.Nat.{_≤_};
-ghost use lib.ListN.{length};
 
 fn say(text: &[u8]) {
     io::write_all(1, text);
@@ -77,73 +75,19 @@ fn show(file: &[u8]) {
     }
 }
 
-// The value of a hexadecimal digit.
-fn digit(b: u8) -> u8
-    ensures { λ r. ⌜ r ≤ 15 ⌝ }
-{
-    if b >= 97 {
-        if b <= 102 {
-            return b - 87;
-        }
-    }
-    if b >= 48 {
-        if b <= 57 {
-            return b - 48;
-        }
-    }
-    0
-}
-
-fn byte(high: u8, low: u8) -> u8 {
-    digit(high) * 16 + digit(low)
-}
-
-// The bytes that a text in hexadecimal has from its second character on, as many as the buffer holds.
-fn decode(text: &[u8], file: &mut [u8]) -> usize
-    ensures { λ r. ⌜ r ≤ length (now (file .exit)) ⌝ }
-{
-    let mut n = 0;
-    let mut i = 2;
-    while i < text.len() {
-        if file.len() <= n {
-            return n;
-        }
-        file[n] = byte(text[i - 1], text[i]);
-        n += 1;
-        i += 2;
-    }
-    n
-}
-
 fn show_line(name: &[u8], text: &[u8]) {
-    // 6,153 bytes are enough to see that a file is too long
-    let mut file = [0u8; 6153];
-    let n = decode(text, &mut file);
+    let mut file = hexadecimal::file_space();
+    let n = hexadecimal::decode(text, &mut file);
     say(name);
     show(&file[0..n]);
     say(b"\n");
 }
 
-// The place of a byte, from a place on, or the end.
-fn find(s: &[u8], from: usize, b: u8) -> usize
-    requires { ⌜ from ≤ length (now s) ⌝ }
-    ensures { λ r. ⌜ (from ≤ r) × (r ≤ length (now (s .entry))) ⌝ }
-{
-    let mut i = from;
-    while i < s.len() {
-        if s[i] == b {
-            return i;
-        }
-        i += 1;
-    }
-    i
-}
-
 fn show_lines(s: &[u8]) {
     let mut at = 0;
     while at < s.len() {
-        let space = find(s, at, b' ');
-        let end = find(s, space, b'\n');
+        let space = hexadecimal::find(s, at, b' ');
+        let end = hexadecimal::find(s, space, b'\n');
         show_line(&s[at..space], &s[space..end]);
         at = end + 1;
     }

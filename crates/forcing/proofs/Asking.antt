@@ -2,40 +2,31 @@
 -- with just one.
 use mathlib.Core.Path.{_≡_, refl, ap, sym, _∙_}
 use mathlib.Core.List.{List, [], _∷_}
-use Prim.Native.Nat.{ℕ, _+_, _-_, _≤_, _<_}
-use native.Mathlib.Nat.{sub-zero}
+use Prim.Native.Nat.{ℕ, _+_, _≤_, _<_}
 use native.Mathlib.Omega.{arith}
 use lib.ListN.{length, getD}
 use lib.Dec.{eqb}
 use borrow.Author.Tests.{eq-eqb, ne-eqb}
 use Rattle.node.specs.declared.Node.{Node}
-use Rattle.node.specs.Lists.{keep, from, first}
+use Rattle.node.specs.Lists.{keep, first}
+use Rattle.node.specs.Passes.{carry}
 use Rattle.node.specs.Instance.{Instance}
-use Rattle.node.specs.Node.{isOpen, freeOf, openRows}
-use Rattle.node.specs.Stored.{partAt, rowColumns, Part, ByRow}
-use Rattle.node.proofs.Loops.{from-next}
+use Rattle.node.specs.Node.{freeOf, openRows}
+use Rattle.node.specs.Stored.{rowColumns, ByRow, SomeRow, SomeRows}
+use Rattle.node.proofs.Passes.{openFrom, open-all, carry-open, carry-closed, carry-none}
 use Rattle.node.proofs.Parts.{free-row}
 use Rattle.rules.specs.declared.Asked.{Asked}
 use Rattle.rules.specs.declared.Asked.the-variants.{Dead, Take, Settled}
 use Rattle.rules.specs.Force.{rowsWith, askedBy, asked}
-use Rattle.forcing.specs.Rows.{freeIn, asksBy, sooner, SomeRow, SomeRows}
+use Rattle.forcing.specs.Rows.{freeIn, asksBy, sooner}
 
--- a row of a matrix
-module _ (heads entries : List ℕ) (i : ℕ) (t : SomeRow heads entries i) where
-  pub row-part : Part heads entries i (rowColumns (t .p) i)
-  row-part = t .kept .row i (t .row)
-
-  pub row-few : i < 64
-  row-few = omega (arith, t .row, t .kept .small .fits .tall)
-
-pub row-asks-is : (p : Instance) (starts heads entries column : List ℕ) (s : Node) (i : ℕ) → s .column ≡ column →
-    ByRow p starts heads entries → i < p .rows → asksBy (freeIn column (partAt heads entries i)) ≡ asksBy (freeOf p s i)
-row-asks-is p starts heads entries column s i e k l = ap asksBy (rw (k .row i l .is, ← e) (sym (free-row p s i)))
+pub row-asks-is : (p : Instance) (row column : List ℕ) (s : Node) (i : ℕ) → s .column ≡ column → row ≡ rowColumns p i →
+    asksBy (freeIn column row) ≡ asksBy (freeOf p s i)
+row-asks-is p row column s i e is = ap asksBy (rw (is, ← e) (sym (free-row p s i)))
 
 -- what was asked so far, and then some rows one after another
-unfoldable pub follow : Instance → Node → Asked → List ℕ → Asked
-follow p s a [] = a
-follow p s a (i ∷ is) = follow p s (sooner a (asksBy (freeOf p s i))) is
+abbrev pub follow : Instance → Node → Asked → List ℕ → Asked
+follow p s a is = carry (λ b i. sooner b (asksBy (freeOf p s i))) a is
 
 module _ (p : Instance) (s : Node) where
   -- the rows with n free columns
@@ -43,7 +34,7 @@ module _ (p : Instance) (s : Node) where
   with-free n xs = keep (λ i. eqb (length (freeOf p s i)) n) xs
 
   follow-dead : (xs : List ℕ) → follow p s Dead xs ≡ Dead
-  unfolding follow sooner
+  unfolding carry sooner
   follow-dead [] = refl
   follow-dead (x ∷ xs) = follow-dead xs
 
@@ -53,7 +44,7 @@ module _ (p : Instance) (s : Node) where
   unless (z ∷ zs) a = Dead
 
   follow-take : (j : ℕ) (xs : List ℕ) → follow p s (Take j) xs ≡ unless (with-free 0 xs) (Take j)
-  unfolding follow sooner with-free keep unless asksBy
+  unfolding carry sooner with-free keep unless asksBy
   follow-take j [] = refl
   follow-take j (x ∷ xs) = go (freeOf p s x) refl (follow-take j xs)
     where
@@ -69,7 +60,7 @@ module _ (p : Instance) (s : Node) where
   take-by x j (z ∷ zs) os e = refl
 
   follow-settled : (xs : List ℕ) → follow p s Settled xs ≡ askedBy p s (with-free 0 xs) (with-free 1 xs)
-  unfolding follow sooner with-free keep askedBy asksBy
+  unfolding carry sooner with-free keep askedBy asksBy
   follow-settled [] = refl
   follow-settled (x ∷ xs) = go (freeOf p s x) refl (follow-settled xs)
     where
@@ -101,10 +92,6 @@ abbrev pub Tells : List ℕ → List ℕ → List ℕ → ℕ → Asked → Type
 Tells heads entries column i next =
     (p : Instance) (starts : List ℕ) (s : Node) → s .column ≡ column → ByRow p starts heads entries → i < p .rows → next ≡ asksBy (freeOf p s i)
 
--- the open rows from i on
-abbrev pub openFrom : ℕ → Node → ℕ → List ℕ
-openFrom rows s i = keep (isOpen s) (from (rows - i) i)
-
 -- at row i
 pub record Asking (column row : List ℕ) (rows : ℕ) (heads entries : List ℕ) (found : Asked) (i : ℕ) : Type 0 where
   pub some : SomeRows rows heads entries
@@ -114,52 +101,37 @@ pub record Asking (column row : List ℕ) (rows : ℕ) (heads entries : List ℕ
 
 pub asking-start : (column row : List ℕ) (rows : ℕ) (heads entries : List ℕ) → SomeRows rows heads entries →
     Asking column row rows heads entries Settled 0
-unfolding openRows
 asking-start column row rows heads entries k =
-    record { some = k; within = omega arith; left = λ p starts s ce re e h. rw (sub-zero, e) (asked-is p s) }
+    record { some = k; within = omega arith; left = λ p starts s ce re e h. rw (open-all p s rows e) (asked-is p s) }
 
 module _ (column row : List ℕ) (rows : ℕ) (heads entries : List ℕ) (found : Asked) (i : ℕ) (w : Asking column row rows heads entries found i) where
   module _ (inside : i < rows) where
     pub asking-row : SomeRow heads entries i
     asking-row = let k = w .some in record { p = k .p; starts = k .starts; kept = k .kept; row = omega (arith, k .rows-is) }
 
-    pub asking-open : getD row i 0 ≡ 1 → (next out : Asked) →
-        Tells heads entries column i next → out ≡ sooner found next → Asking column row rows heads entries out (i + 1)
-    unfolding keep follow
-    asking-open h next out told is = record {
-      some = w .some;
-      within = omega arith;
-      left = λ p starts s ce re e k.
-          let o : openFrom rows s i ≡ i ∷ openFrom rows s (i + 1) = rw (from-next rows i inside, re, eq-eqb (getD row i 0) 1 h) in
-          rw (is, told p starts s ce k (omega arith)) (sym (ap (follow p s found) o) ∙ w .left p starts s ce re e k);
-    }
+    module _ (h : getD row i 0 ≡ 1) (next : Asked) (told : Tells heads entries column i next) where
+      pub asking-open : (out : Asked) → out ≡ sooner found next → Asking column row rows heads entries out (i + 1)
+      asking-open out is = record {
+        some = w .some;
+        within = omega arith;
+        left = λ p starts s ce re e k.
+            rw (is, told p starts s ce k (omega arith)) (carry-open _ rows s found i inside (rw re h) ∙ w .left p starts s ce re e k);
+      }
 
-    -- a row without a free column decides
-    pub asking-dead : getD row i 0 ≡ 1 → (next : Asked) → Tells heads entries column i next → next ≡ Dead →
-        (p : Instance) (starts : List ℕ) (s : Node) → s .column ≡ column → s .row ≡ row → rows ≡ p .rows → ByRow p starts heads entries →
-        Dead ≡ asked p s
-    unfolding keep follow
-    asking-dead h next told is p starts s ce re e k =
-        let o : openFrom rows s i ≡ i ∷ openFrom rows s (i + 1) = rw (from-next rows i inside, re, eq-eqb (getD row i 0) 1 h) in
-        let d : asksBy (freeOf p s i) ≡ Dead = sym (told p starts s ce k (omega arith)) ∙ is in
-        sym (follow-dead p s (openFrom rows s (i + 1)))
-        ∙ ap (λ (a : Asked). follow p s a (openFrom rows s (i + 1))) (sym (ap (sooner found) d ∙ sooner-dead found))
-        ∙ sym (ap (follow p s found) o) ∙ w .left p starts s ce re e k
+      -- a row without a free column decides
+      pub asking-dead : next ≡ Dead → (p : Instance) (starts : List ℕ) (s : Node) → s .column ≡ column → s .row ≡ row → rows ≡ p .rows →
+          ByRow p starts heads entries → Dead ≡ asked p s
+      asking-dead is p starts s ce re e k =
+          sym (follow-dead p s (openFrom rows s (i + 1)))
+          ∙ asking-open Dead (sym (ap (sooner found) is ∙ sooner-dead found)) .left p starts s ce re e k
 
     pub asking-closed : (getD row i 0 ≡ 1 → ⊥) → Asking column row rows heads entries found (i + 1)
-    unfolding keep
     asking-closed h = record {
       some = w .some;
       within = omega arith;
-      left = λ p starts s ce re e k.
-          let o : openFrom rows s i ≡ openFrom rows s (i + 1) = rw (from-next rows i inside, re, ne-eqb (getD row i 0) 1 h) in
-          sym (ap (follow p s found) o) ∙ w .left p starts s ce re e k;
+      left = λ p starts s ce re e k. carry-closed _ rows s found i inside (rw re h) ∙ w .left p starts s ce re e k;
     }
 
   pub asking-end : rows ≤ i → (p : Instance) (starts : List ℕ) (s : Node) → s .column ≡ column → s .row ≡ row → rows ≡ p .rows →
       ByRow p starts heads entries → found ≡ asked p s
-  unfolding keep from follow
-  asking-end h p starts s ce re e k =
-      let z : rows - i ≡ 0 = omega arith in
-      let o : openFrom rows s i ≡ [] = rw z in
-      sym (ap (follow p s found) o) ∙ w .left p starts s ce re e k
+  asking-end h p starts s ce re e k = carry-none _ rows s found i h ∙ w .left p starts s ce re e k

@@ -12,7 +12,7 @@ use Rattle.node.specs.declared.Node.{Node}
 use Rattle.node.specs.Lists.{on, keep, upto}
 use Rattle.node.specs.Instance.{Instance, width, meets}
 use Rattle.node.specs.Node.{mark, isFree, costAt, take}
-use Rattle.node.specs.Stored.{ByColumn, ByRow}
+use Rattle.node.specs.Stored.{ByColumn, ByRow, SomeRows}
 use Rattle.node.specs.Taking.{Takes}
 use Rattle.node.proofs.Members.{at-table, keep-lt, member-upto, upto-lt}
 use Rattle.rules.specs.declared.Asked.{Asked}
@@ -23,7 +23,7 @@ use Rattle.rules.proofs.Sums.{total-one}
 use Rattle.rules.proofs.Plans.{Free}
 use Rattle.rules.proofs.Forcing.{asked-free, force-step}
 use Rattle.rules.proofs.Costs.{take-ceiling}
-use Rattle.forcing.specs.Rows.{SomeRows, Forcible}
+use Rattle.forcing.specs.Rows.{Forcible}
 
 -- how many marks are free: what falls with each step
 abbrev pub frees : Node → ℕ
@@ -35,7 +35,7 @@ module _ (p : Instance) (s : Node) (j b k : ℕ) (l : k < 256) where
   unfolding take
   mark-take = at-table 256 (λ k. cond (eqb k j) 2 (cond (isFree s k && meets p j k) 0 (mark s k))) k l
 
-  was-free : isFree (take p s j b) k ≡ true → isFree s k ≡ true
+  pub was-free : isFree (take p s j b) k ≡ true → isFree s k ≡ true
   was-free h = go (eqb k j) (isFree s k) refl (rw mark-take at h)
     where
       go : (e f : Bool) → isFree s k ≡ f → eqb (cond e 2 (cond (f && meets p j k) 0 (mark s k))) 1 ≡ true → f ≡ true
@@ -46,7 +46,7 @@ module _ (p : Instance) (s : Node) (j b k : ℕ) (l : k < 256) where
 taken-not-free : (p : Instance) (s : Node) (j b : ℕ) → j < 256 → isFree (take p s j b) j ≡ false
 taken-not-free p s j b l = rw (mark-take p s j b j l, eq-eqb j j refl)
 
-frees-less : (p : Instance) (s : Node) (j b : ℕ) → j < 256 → isFree s j ≡ true → frees (take p s j b) < frees s
+pub frees-less : (p : Instance) (s : Node) (j b : ℕ) → j < 256 → isFree s j ≡ true → frees (take p s j b) < frees s
 frees-less p s j b l f =
     omega (
       arith,

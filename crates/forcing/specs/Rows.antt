@@ -1,7 +1,7 @@
 -- What rows ask, as their columns and then the rows are read one by one; and what a node must keep to so that it can be forced.
 use mathlib.Core.Path.{_≡_}
 use mathlib.Core.List.{List, [], _∷_}
-use Prim.Native.Nat.{ℕ, _≤_, _<_}
+use Prim.Native.Nat.{ℕ, _≤_}
 use lib.ListN.{getD}
 use lib.Dec.{eqb}
 use Rattle.node.specs.declared.Node.{Node}
@@ -29,20 +29,6 @@ sooner (Take j) Dead = Dead
 sooner (Take j) (Take k) = Take j
 sooner (Take j) Settled = Take j
 sooner Settled b = b
-
--- some instance with more than i rows is kept by rows so
-pub record SomeRow (heads entries : List ℕ) (i : ℕ) : Type 0 where
-  pub p : Instance
-  pub starts : List ℕ
-  pub kept : ByRow p starts heads entries
-  pub row : i < p .rows
-
--- some instance with so many rows is kept by rows so
-pub record SomeRows (rows : ℕ) (heads entries : List ℕ) : Type 0 where
-  pub p : Instance
-  pub starts : List ℕ
-  pub rows-is : rows ≡ p .rows
-  pub kept : ByRow p starts heads entries
 
 -- some instance is kept so, and the costs of a node's free columns can be added to its bound
 pub record Forcible (s : Node) (rows : ℕ) (starts numbers heads entries : List ℕ) : Type 0 where

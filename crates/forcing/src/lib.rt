@@ -1,24 +1,25 @@
 // Forcing (01, Forcing): what a row asks by its free columns, what the open rows ask together, and the columns taken until
 // nothing is forced.
 use node::Node;
+use node::row_part;
 use rules::Asked;
 use rules::Forced;
 ghost use mathlib.Core.Path.{_≡_};
 ghost use mathlib.Core.List.{List};
-ghost use Prim.Native.Nat.{ℕ, _<_};
+ghost use Prim.Native.Nat.{ℕ, _<_, min};
 ghost use lib.ListN.{length};
 ghost use Rattle.node.specs.declared.Node.{Node};
 ghost use Rattle.node.specs.Lists.{first};
 ghost use Rattle.node.specs.Instance.{Instance};
 ghost use Rattle.node.specs.Node.{freeOf};
-ghost use Rattle.node.specs.Stored.{ByColumn, ByRow};
+ghost use Rattle.node.specs.Stored.{ByColumn, ByRow, SomeRow, SomeRows};
 ghost use Rattle.rules.specs.Force.{asked, force};
 ghost use Rattle.rules.specs.Tree.{joined};
-ghost use Rattle.forcing.specs.Rows.{freeIn, asksBy, sooner, SomeRow, SomeRows, Forcible};
+ghost use Rattle.forcing.specs.Rows.{freeIn, asksBy, sooner, Forcible};
 
-// How many of some columns are free.
+// How many of some columns are free, counted up to 2.
 fn free_count(column: &[u8; 256], columns: &[u8]) -> usize
-    ensures { λ r. ⌜ r ≡ length (freeIn (now (column .entry)) (now (columns .entry))) ⌝ }
+    ensures { λ r. ⌜ r ≡ min (length (freeIn (now (column .entry)) (now (columns .entry)))) 2 ⌝ }
 {
     let mut n = 0;
     let mut k = 0;
@@ -26,6 +27,9 @@ fn free_count(column: &[u8; 256], columns: &[u8]) -> usize
         let j = columns[k] as usize;
         k += 1;
         if column[j] == 1 {
+            if n == 1 {
+                return 2;
+            }
             n += 1;
         }
     }
@@ -68,9 +72,8 @@ fn row_asks(column: &[u8; 256], heads: &[u16; 65], entries: &[u8], i: usize) -> 
     requires { ⌜ SomeRow (now heads) (now entries) i ⌝ }
     ensures { λ r. ⌜ ((p : Instance) (starts : List ℕ) (s : Node) → s .column ≡ now (column .entry) → ByRow p starts (now (heads .entry)) (now (entries .entry)) → i < p .rows → r ≡ asksBy (freeOf p s i)) ⌝ }
 {
-    let start = heads[i] as usize;
-    let end = heads[i + 1] as usize;
-    columns_ask(column, &entries[start..end])
+    let row = row_part(heads, entries, i);
+    columns_ask(column, row)
 }
 
 // What the rows so far ask, and one more row.

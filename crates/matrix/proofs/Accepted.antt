@@ -1,28 +1,29 @@
--- The instance of an accepted file is small, since the file's tests bound its numbers; and the bodies lie in the list of row numbers one
--- after another, as the reader gives them.
+-- The instance of an accepted file is small, since the file's tests bound its numbers; and it is the one that the file's lists state.
 use mathlib.Core.Path.{_≡_, refl, ap, sym, _∙_}
 use mathlib.Core.Bool.{true, false≢true}
 use mathlib.Core.List.{List, [], _∷_}
 use mathlib.Core.Logic.{⊎-elim}
-use Prim.Native.Nat.{ℕ, zero, suc, _+_, _-_, _≤_, _<_}
+use Prim.Native.Nat.{ℕ, zero, suc, _≤_, _<_}
 use native.Mathlib.Omega.{arith}
 use lib.ListN.{length, getD, take, drop, length-map, length-take, length-drop}
 use borrow.Author.Tests.{ltb-true, leb-true}
 use Rattle.refusals.specs.Refusals.{fine}
 use Rattle.refusals.proofs.Laws.{both, asked}
-use Rattle.node.specs.Lists.{member}
+use Rattle.node.specs.Lists.{member, table}
 use Rattle.node.specs.Instance.{Instance, width, body, span}
 use Rattle.node.proofs.Members.{member-cases, and-both}
 use Rattle.rules.proofs.Sums.{total-cong}
 use Rattle.dutyfile.specs.declared.Entry.{Entry}
-use Rattle.dutyfile.specs.File.{rowsIn, columnsIn, bodiesAt, entryOf, entries, costOf, sizeOf, parse, sum, bodies, instance, shape}
+use Rattle.dutyfile.specs.File.{rowsIn, columnsIn, bodiesAt, entryOf, entries, costOf, sizeOf, parse, sum, instance, shape}
 use Rattle.dutyfile.specs.Faults.{rising, bodiesFault, contentsFault, rowsFault}
 use Rattle.dutyfile.proofs.Entries.{length-entries}
 use Rattle.dutyfile.proofs.Facts.{Accepted, contents-small, length-numbers}
-use Rattle.dutyfile.proofs.Columns.{body-at, length-bodies, ColumnAt, column-at}
-use Rattle.node.specs.Stored.{Small, ByColumn}
-use Rattle.matrix.specs.Build.{Counts, Starts}
-use Rattle.matrix.proofs.Sums.{sum-more, sum-take-le, total-sum, total-below}
+use Rattle.dutyfile.proofs.Columns.{length-bodies, ColumnAt, column-at}
+use Rattle.node.specs.Stored.{Small}
+use Rattle.matrix.specs.Build.{Counts}
+use Rattle.matrix.specs.Stated.{Stated}
+use Rattle.matrix.proofs.Sums.{sum-take-le, total-sum, total-below}
+use Rattle.matrix.proofs.Stated.{placed}
 
 -- numbers that rise within bounds are within them
 rising-member : (low high : ℕ) (xs : List ℕ) (r : ℕ) → rising low high xs ≡ true → member r xs ≡ true → (low < r) × (r ≤ high)
@@ -57,25 +58,8 @@ module _ (s : List ℕ) (a : Accepted s) where
   column : (j : ℕ) → j < width (instance (parse s)) → ColumnAt s j (entryOf (drop (bodiesAt j) s))
   column j l = column-at s (a .walked) j (rw wide at l)
 
-  -- where body j lies in the row numbers
-  record Placed (j : ℕ) : Type 0 where
-    length-is : span (instance (parse s)) j ≡ getD (parse s .lengths) j 0
-    inside : sum (take (j + 1) (parse s .lengths)) ≤ length (parse s .numbers)
-    is : body (instance (parse s)) j ≡ take (getD (parse s .lengths) j 0) (drop (sum (take j (parse s .lengths))) (parse s .numbers))
-
-  placed : (j : ℕ) → j < width (instance (parse s)) → Placed j
-  unfolding instance
-  placed j l =
-      let ls : List ℕ = parse s .lengths in
-      let ns : List ℕ = parse s .numbers in
-      let i : j < length ls = rw (lengths-count, ← wide) l in
-      let b : getD (bodies ls ns) j [] ≡ take (getD ls j 0) (drop (sum (take j ls)) ns) = body-at ls ns j i in
-      let e : sum (take (j + 1) ls) ≤ length ns = omega (arith, sum-take-le ls (j + 1), length-numbers s (a .walked)) in
-      record {
-        length-is = ap length b ∙ simp (length-take, length-drop) (omega (arith, e, sum-more ls j i));
-        inside = e;
-        is = b;
-      }
+  numbers-count : length (parse s .numbers) ≡ sum (parse s .lengths)
+  numbers-count = length-numbers s (a .walked)
 
   tall : instance (parse s) .rows ≤ 64
   unfolding instance parse
@@ -111,7 +95,7 @@ module _ (s : List ℕ) (a : Accepted s) where
         covering = covering;
         full = omega (
           arith,
-          total-cong (width p) (span p) (λ j. getD (parse s .lengths) j 0) (λ j l. placed j l .length-is),
+          total-cong (width p) (span p) (λ j. getD (parse s .lengths) j 0) (λ j l. placed (parse s .lengths) (parse s .numbers) j numbers-count (omega (arith, wide, lengths-count)) .length-is),
           total-sum (parse s .lengths) (width p) (omega (arith, wide, lengths-count)),
           sum-take-le (parse s .lengths) (width p),
           contents,
@@ -124,19 +108,16 @@ module _ (s : List ℕ) (a : Accepted s) where
         );
       }
 
-  pub file-columns : (starts : List ℕ) → Starts (parse s .lengths) starts → ByColumn (instance (parse s)) starts (parse s .numbers)
-  file-columns starts h = record {
+  -- the lists that it states, with the costs in a table of 256 places
+  pub file-stated : Stated (instance (parse s)) (shape s .rows) (shape s .columns) (table 256 (λ j. getD (parse s .costs) j 0)) (parse s .lengths)
+      (parse s .numbers)
+  unfolding shape instance parse
+  file-stated = record {
     small = file-small;
-    column = λ j l.
-        let ls : List ℕ = parse s .lengths in
-        let q = placed j l in
-        let i : j < length ls = rw (lengths-count, ← wide) l in
-        let x : getD starts j 0 ≡ sum (take j ls) = h .start j (omega arith) in
-        let y : getD starts (j + 1) 0 ≡ sum (take (j + 1) ls) = h .start (j + 1) (omega arith) in
-        let z : getD starts (j + 1) 0 - getD starts j 0 ≡ getD ls j 0 = omega (arith, sum-more ls j i) in
-        record {
-          rises = omega (arith, sum-more ls j i);
-          inside = omega (arith, q .inside);
-          is = rw (z, x) (sym (q .is));
-        };
+    rows-is = refl;
+    columns-is = sym wide;
+    costs-is = refl;
+    bodies-is = refl;
+    lengths-long = lengths-count;
+    numbers-long = numbers-count;
   }

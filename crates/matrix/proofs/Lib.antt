@@ -10,5 +10,6 @@ mod Collected
 mod Collecting
 -- and of the root.
 pub mod Root
--- The instance of an accepted file, and its columns as they are read.
+-- What lists state, and the instance of an accepted file.
+pub mod Stated
 pub mod Accepted

@@ -1,1 +1,2 @@
 pub mod Build
+pub mod Stated

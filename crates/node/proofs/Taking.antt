@@ -4,22 +4,23 @@ use mathlib.Core.Path.{_≡_, refl, ap, sym, _∙_}
 use mathlib.Core.Bool.{Bool, true, false, cond, _&&_, _||_, false≢true, or-true}
 use mathlib.Core.List.{List, [], _∷_}
 use mathlib.Core.Logic.{⊎-elim}
-use Prim.Native.Nat.{ℕ, suc, _+_, _-_, _≤_, _<_}
+use Prim.Native.Nat.{ℕ, suc, _+_, _-_, _<_}
 use native.Mathlib.Omega.{arith}
-use lib.ListN.{length, getD, set, drop, length-set, drop-of-length-le, List·getD-eq-default}
+use lib.ListN.{length, getD, set, length-set}
 use lib.Seq.{getD-set-same, getD-set-other}
-use lib.Dec.{eqb, ltb}
-use borrow.Author.Tests.{eqb-true, eqb-false, eq-eqb, ne-eqb, ltb-true, ltb-false}
+use lib.Dec.{eqb}
+use borrow.Author.Tests.{eqb-true, eqb-false, eq-eqb, ne-eqb}
 use Rattle.node.specs.declared.Node.{Node}
 use Rattle.node.specs.Lists.{member, table}
-use Rattle.node.specs.Instance.{Instance, width, columns, body, covers, meets}
+use Rattle.node.specs.Instance.{Instance, width, body, covers, meets}
 use Rattle.node.specs.Node.{mark, isFree, costAt, take, leave}
-use Rattle.node.specs.Stored.{Body, Part, partAt, ByColumn, ByRow}
-use Rattle.node.specs.Taking.{closed, dropped, allDropped, rowsDropped, RowParts, Takes}
-use Rattle.node.proofs.Members.{and-both, here, there, member-at, member-cases, member-keep, member-upto}
-use Rattle.node.proofs.Loops.{table-ext, drop-step}
+use Rattle.node.specs.Stored.{Body, partAt, ByColumn, ByRow, SomeBody, IsRow, IsBody}
+use Rattle.node.specs.Passes.{carry}
+use Rattle.node.specs.Taking.{closed, dropped, allDropped, rowsDropped, Takes}
+use Rattle.node.proofs.Members.{same-bool, here, there, member-cases}
+use Rattle.node.proofs.Loops.{table-ext}
 use Rattle.node.proofs.Shares.{meets-at, meets-of}
-use Rattle.node.proofs.Parts.{body-rows}
+use Rattle.node.proofs.Parts.{row-at, body-row, body-rows, body-in-rows, row-covers}
 
 -- a place of a list with one place set
 set-at : (l : List ℕ) (n j v k : ℕ) → length l ≡ n → k < n → getD (set l j v) k 0 ≡ cond (eqb k j) v (getD l k 0)
@@ -29,90 +30,31 @@ set-at l n j v k e h = go (eqb k j) refl
     go true q = rw (← eqb-true k j q) (getD-set-same l k v 0 (omega arith))
     go false q = getD-set-other l j k v 0 (eqb-false k j q)
 
--- at row number k of a body
-pub record Closing (rs row₀ row : List ℕ) (k : ℕ) : Type 0 where
-  pub rows : Body rs
-  pub left : closed (drop k rs) row ≡ closed rs row₀
+-- a mark of a free column changed, and another one as it was
+pub dropped-free : (column : List ℕ) (j : ℕ) → getD column j 0 ≡ 1 → set column j 0 ≡ dropped column j
+unfolding dropped
+dropped-free column j h = rw (eq-eqb (getD column j 0) 1 h)
 
-pub closing-start : (rs row : List ℕ) → Body rs → Closing rs row row 0
-closing-start rs row h = record { rows = h; left = refl }
+pub dropped-other : (column : List ℕ) (j : ℕ) → (getD column j 0 ≡ 1 → ⊥) → column ≡ dropped column j
+unfolding dropped
+dropped-other column j h = rw (ne-eqb (getD column j 0) 1 h)
 
-module _ (rs row₀ row : List ℕ) (k : ℕ) (w : Closing rs row₀ row k) where
-  pub closing-next : k < length rs → Closing rs row₀ (set row (getD rs k 0 - 1) 0) (k + 1)
-  unfolding closed
-  closing-next l = record { rows = w .rows; left = sym (ap (λ (l : List ℕ). closed l row) (drop-step rs k l)) ∙ w .left }
-
-  pub closing-end : length rs ≤ k → row ≡ closed rs row₀
-  unfolding closed
-  closing-end l = sym (ap (λ (l : List ℕ). closed l row) (drop-of-length-le rs l)) ∙ w .left
-
--- at place k of some columns
-pub record Dropping (js column₀ column : List ℕ) (k : ℕ) : Type 0 where
-  pub left : allDropped (drop k js) column ≡ allDropped js column₀
-
-pub dropping-start : (js column : List ℕ) → Dropping js column column 0
-dropping-start js column = record { left = refl }
-
-module _ (js column₀ column : List ℕ) (k : ℕ) (w : Dropping js column₀ column k) where
-  one-less : k < length js → allDropped (drop (k + 1) js) (dropped (getD js k 0) column) ≡ allDropped js column₀
-  unfolding allDropped
-  one-less l = sym (ap (λ (l : List ℕ). allDropped l column) (drop-step js k l)) ∙ w .left
-
-  pub dropping-free : k < length js → getD column (getD js k 0) 0 ≡ 1 → Dropping js column₀ (set column (getD js k 0) 0) (k + 1)
-  unfolding dropped
-  dropping-free l h = record { left = rw (eq-eqb (getD column (getD js k 0) 0) 1 h) at (one-less l) }
-
-  pub dropping-other : k < length js → (getD column (getD js k 0) 0 ≡ 1 → ⊥) → Dropping js column₀ column (k + 1)
-  unfolding dropped
-  dropping-other l h = record { left = rw (ne-eqb (getD column (getD js k 0) 0) 1 h) at (one-less l) }
-
-  pub dropping-end : length js ≤ k → column ≡ allDropped js column₀
-  unfolding allDropped
-  dropping-end l = sym (ap (λ (l : List ℕ). allDropped l column) (drop-of-length-le js l)) ∙ w .left
-
--- at row number k of a body, whose rows are parts of the entries
-pub record Sharing (heads entries rs column₀ column : List ℕ) (k : ℕ) : Type 0 where
-  pub parts : RowParts heads entries rs
-  pub left : rowsDropped heads entries (drop k rs) column ≡ rowsDropped heads entries rs column₀
-
-pub sharing-start : (heads entries rs column : List ℕ) → RowParts heads entries rs → Sharing heads entries rs column column 0
-sharing-start heads entries rs column h = record { parts = h; left = refl }
-
--- row number k of the body
-pub record RowPart (heads entries : List ℕ) (r : ℕ) : Type 0 where
-  pub from-one : 1 ≤ r
-  pub few : r ≤ 64
-  pub rises : getD heads (r - 1) 0 ≤ getD heads (r - 1 + 1) 0
-  pub ends : getD heads (r - 1 + 1) 0 ≤ length entries
-
-module _ (heads entries rs column₀ column : List ℕ) (k : ℕ) (w : Sharing heads entries rs column₀ column k) where
-  module _ (inside : k < length rs) where
-    pub sharing-row : RowPart heads entries (getD rs k 0)
-    sharing-row =
-        let m = w .parts in
-        let r : ℕ = getD rs k 0 in
-        let n = m .numbered k inside in
-        let q = m .kept .row (r - 1) (omega (arith, n .0, n .1)) in
-        record { from-one = n .0; few = omega (arith, n .1, m .kept .small .fits .tall); rises = q .rises; ends = q .inside }
-
-    pub sharing-next : (out : List ℕ) → out ≡ allDropped (partAt heads entries (getD rs k 0 - 1)) column → Sharing heads entries rs column₀ out (k + 1)
-    unfolding rowsDropped
-    sharing-next out e =
-        record { parts = w .parts; left = rw e (sym (ap (λ (l : List ℕ). rowsDropped heads entries l column) (drop-step rs k inside)) ∙ w .left) }
-
-  pub sharing-end : length rs ≤ k → column ≡ rowsDropped heads entries rs column₀
-  unfolding rowsDropped
-  sharing-end l = sym (ap (λ (l : List ℕ). rowsDropped heads entries l column) (drop-of-length-le rs l)) ∙ w .left
+-- a row of a body is a part of the entries
+pub row-dropped : (heads entries rs : List ℕ) → SomeBody heads entries rs → (k : ℕ) → k < length rs → (row column out : List ℕ) →
+    IsRow heads entries (getD rs k 0 - 1) row → out ≡ allDropped row column → out ≡ allDropped (partAt heads entries (getD rs k 0 - 1)) column
+row-dropped heads entries rs some k l row column out is e =
+    let t = body-row heads entries rs some k l in
+    e ∙ ap (λ (r : List ℕ). allDropped r column) (is (t .p) (t .starts) (t .kept) (t .row) ∙ sym (row-at heads entries _ t .is))
 
 -- the closed rows, place by place
 length-closed : (rs row : List ℕ) → length (closed rs row) ≡ length row
-unfolding closed
+unfolding carry
 length-closed [] row = refl
 length-closed (r ∷ rs) row = length-closed rs (set row (r - 1) 0) ∙ length-set row (r - 1) 0
 
 closed-at : (rs row : List ℕ) → Body rs → length row ≡ 64 → (i : ℕ) → i < 64 →
     getD (closed rs row) i 0 ≡ cond (member (suc i) rs) 0 (getD row i 0)
-unfolding closed member
+unfolding carry member
 closed-at [] row h l i b = refl
 closed-at (r ∷ rs) row h l i b =
     closed-at rs (set row (r - 1) 0) (λ n m. h (suc n) (omega arith)) (length-set row (r - 1) 0 ∙ l) i b
@@ -152,17 +94,17 @@ gone-not x = go (eqb x 1)
     go true = refl
     go false = refl
 
-length-dropped : (j : ℕ) (column : List ℕ) → length (dropped j column) ≡ length column
+length-dropped : (column : List ℕ) (j : ℕ) → length (dropped column j) ≡ length column
 unfolding dropped
-length-dropped j column = go (eqb (getD column j 0) 1)
+length-dropped column j = go (eqb (getD column j 0) 1)
   where
     go : (b : Bool) → length (cond b (set column j 0) column) ≡ length column
     go true = length-set column j 0
     go false = refl
 
-dropped-at : (j : ℕ) (column : List ℕ) → length column ≡ 256 → (k : ℕ) → k < 256 → getD (dropped j column) k 0 ≡ gone (eqb k j) (getD column k 0)
+dropped-at : (column : List ℕ) (j : ℕ) → length column ≡ 256 → (k : ℕ) → k < 256 → getD (dropped column j) k 0 ≡ gone (eqb k j) (getD column k 0)
 unfolding dropped gone
-dropped-at j column l k b = go (eqb (getD column j 0) 1) refl (eqb k j) refl
+dropped-at column j l k b = go (eqb (getD column j 0) 1) refl (eqb k j) refl
   where
     go : (c : Bool) → eqb (getD column j 0) 1 ≡ c → (d : Bool) → eqb k j ≡ d →
         getD (cond c (set column j 0) column) k 0 ≡ cond (eqb (getD column k 0) 1 && d) 0 (getD column k 0)
@@ -172,16 +114,16 @@ dropped-at j column l k b = go (eqb (getD column j 0) 1) refl (eqb k j) refl
     go false e false f = gone-not (getD column k 0)
 
 length-all : (js column : List ℕ) → length (allDropped js column) ≡ length column
-unfolding allDropped
+unfolding carry
 length-all [] column = refl
-length-all (j ∷ js) column = length-all js (dropped j column) ∙ length-dropped j column
+length-all (j ∷ js) column = length-all js (dropped column j) ∙ length-dropped column j
 
 all-at : (js column : List ℕ) → length column ≡ 256 → (k : ℕ) → k < 256 → getD (allDropped js column) k 0 ≡ gone (member k js) (getD column k 0)
-unfolding allDropped member
+unfolding carry member
 all-at [] column l k b = gone-not (getD column k 0)
 all-at (j ∷ js) column l k b =
-    all-at js (dropped j column) (length-dropped j column ∙ l) k b
-    ∙ rw (dropped-at j column l k b) (gone-twice (eqb k j) (member k js) (getD column k 0))
+    all-at js (dropped column j) (length-dropped column j ∙ l) k b
+    ∙ rw (dropped-at column j l k b) (gone-twice (eqb k j) (member k js) (getD column k 0))
 
 -- column k is in one of the rows of a body
 unfoldable inRows : List ℕ → List ℕ → List ℕ → ℕ → Bool
@@ -190,14 +132,14 @@ inRows heads entries (r ∷ rs) k = member k (partAt heads entries (r - 1)) || i
 
 module _ (heads entries : List ℕ) where
   length-rows : (rs column : List ℕ) → length (rowsDropped heads entries rs column) ≡ length column
-  unfolding rowsDropped
+  unfolding carry
   length-rows [] column = refl
   length-rows (r ∷ rs) column =
       length-rows rs (allDropped (partAt heads entries (r - 1)) column) ∙ length-all (partAt heads entries (r - 1)) column
 
   rows-at : (rs column : List ℕ) → length column ≡ 256 → (k : ℕ) → k < 256 →
       getD (rowsDropped heads entries rs column) k 0 ≡ gone (inRows heads entries rs k) (getD column k 0)
-  unfolding rowsDropped inRows
+  unfolding carry inRows
   rows-at [] column l k b = gone-not (getD column k 0)
   rows-at (r ∷ rs) column l k b =
       let part : List ℕ = partAt heads entries (r - 1) in
@@ -222,29 +164,10 @@ module _ (heads entries : List ℕ) where
       go true e g f = (x, here x rs, e)
       go false e g f = let m = f g in (m .0, there (m .0) x rs (m .1), m .2)
 
-same-bool : (a b : Bool) → (a ≡ true → b ≡ true) → (b ≡ true → a ≡ true) → a ≡ b
-same-bool true b f g = sym (f refl)
-same-bool false true f g = g refl
-same-bool false false f g = refl
-
 module _ (p : Instance) (starts heads entries : List ℕ) (kept : ByRow p starts heads entries) where
-  -- only the columns of the instance cover a row
-  covering : (i k : ℕ) → covers p i k ≡ true → k < width p
-  unfolding covers member
-  covering i k h = go (ltb k (width p)) refl
-    where
-      go : (b : Bool) → ltb k (width p) ≡ b → k < width p
-      go true e = ltb-true k (width p) e
-      go false e =
-          let n : body p k ≡ [] = List·getD-eq-default (p .bodies) [] (omega (arith, kept .small .paired, ltb-false k (width p) e)) in
-          absurd (false≢true (rw n at h))
-
   -- the columns of a row are those that cover it
   in-row : (i k : ℕ) → i < p .rows → member k (partAt heads entries i) ≡ covers p i k
-  in-row i k l =
-      rw (kept .row i l .is) (member-keep (covers p i) k (columns p)
-      ∙ same-bool (covers p i k && member k (columns p)) (covers p i k) (λ h. and-both h .0)
-      (λ h. rw (h, member-upto (width p) k (covering i k h))))
+  in-row i k l = rw (kept .row i l .is) (row-covers p (kept .small) i k)
 
   -- so the columns in the rows of a body are those that meet it
   rows-meet : (j k : ℕ) → j < width p → inRows heads entries (body p j) k ≡ meets p j k
@@ -263,15 +186,15 @@ module _ (p : Instance) (starts heads entries : List ℕ) (kept : ByRow p starts
       let e : suc (m .0) - 1 ≡ m .0 = omega arith in
       in-rows heads entries (body p j) (suc (m .0)) k (m .2) (rw e (in-row (m .0) k (m .1) ∙ m .3)))
 
-  -- the node with column j taken
+  -- the node with column j taken, whose body is rs
   pub taken-is : (numbers : List ℕ) → ByColumn p starts numbers → (s : Node) (j : ℕ) → j < width p → length (s .column) ≡ 256 →
-      length (s .row) ≡ 64 → (column row : List ℕ) → row ≡ closed (partAt starts numbers j) (s .row) →
-      column ≡ rowsDropped heads entries (partAt starts numbers j) (s .column) →
+      length (s .row) ≡ 64 → (rs : List ℕ) → IsBody starts numbers j rs → (column row : List ℕ) → row ≡ closed rs (s .row) →
+      column ≡ rowsDropped heads entries rs (s .column) →
       record { cost = s .cost; column = set column j 2; row = row; bound = s .bound + costAt s j } ≡ take p s j (s .bound + costAt s j)
   unfolding take gone covers
-  taken-is numbers by s j l cl rl column row re ce =
-      let is : partAt starts numbers j ≡ body p j = by .column j l .is in
-      let n : length column ≡ 256 = ap length ce ∙ length-rows heads entries (partAt starts numbers j) (s .column) ∙ cl in
+  taken-is numbers by s j l cl rl rs told column row re ce =
+      let is : rs ≡ body p j = told p by l in
+      let n : length column ≡ 256 = ap length ce ∙ length-rows heads entries rs (s .column) ∙ cl in
       let f : ℕ → ℕ = λ k. cond (eqb k j) 2 (cond (isFree s k && meets p j k) 0 (mark s k)) in
       let g : ℕ → ℕ = λ i. cond (covers p i j) 0 (getD (s .row) i 0) in
       let a : set column j 2 ≡ table 256 f =
@@ -279,7 +202,7 @@ module _ (p : Instance) (starts heads entries : List ℕ) (kept : ByRow p starts
       (λ k b. set-at column 256 j 2 k n b
       ∙ rw (ce, is, rows-at heads entries (body p j) (s .column) cl k b, rows-meet j k l)) in
       let b : row ≡ table 64 g =
-      table-ext 64 g row (ap length re ∙ length-closed (partAt starts numbers j) (s .row) ∙ rl)
+      table-ext 64 g row (ap length re ∙ length-closed rs (s .row) ∙ rl)
       (λ i b. rw (re, is) (closed-at (body p j) (s .row) (body-rows p (kept .small) j l) rl i b)) in
       rw (a, b)
 
@@ -290,18 +213,15 @@ left-is s j l =
     let f : ℕ → ℕ = λ k. cond (eqb k j) 0 (mark s k) in
     rw (table-ext 256 f (set (s .column) j 0) (length-set (s .column) j 0 ∙ l) (λ k b. set-at (s .column) 256 j 0 k l b))
 
--- what the steps of taking ask
-module _ (s : Node) (j : ℕ) (starts numbers heads entries : List ℕ) (t : Takes s j starts numbers heads entries) where
-  pub taken-part : Part starts numbers j (body (t .p) j)
-  taken-part = t .by-column .column j (t .column)
+-- what the steps of taking ask of the body rs
+module _ (s : Node) (j : ℕ) (starts numbers heads entries : List ℕ) (t : Takes s j starts numbers heads entries)
+    (rs : List ℕ) (told : IsBody starts numbers j rs) where
+  is : rs ≡ body (t .p) j
+  is = told (t .p) (t .by-column) (t .column)
 
-  pub taken-body : Body (partAt starts numbers j)
-  taken-body = rw (taken-part .is) (body-rows (t .p) (t .by-row .small) j (t .column))
+  pub taken-body : Body rs
+  taken-body = rw is (body-rows (t .p) (t .by-row .small) j (t .column))
 
-  pub taken-rows : RowParts heads entries (partAt starts numbers j)
-  taken-rows = rw (taken-part .is) (record {
-    p = t .p;
-    starts = starts;
-    kept = t .by-row;
-    numbered = λ k l. t .by-row .small .numbered j (getD (body (t .p) j) k 0) (t .column) (member-at (body (t .p) j) k l);
-  })
+  pub taken-rows : SomeBody heads entries rs
+  taken-rows =
+      record { p = t .p; starts = starts; kept = t .by-row; numbered = rw is (body-in-rows (t .p) (t .by-row .small) j (t .column)) }

@@ -1,5 +1,6 @@
 -- The instance and the node (01: sailings, duties, prices; the node's marks), and the list functions that the rules use.
 pub mod Lists
+pub mod Passes
 pub mod Instance
 pub mod Node
 pub mod Stored

@@ -42,3 +42,39 @@ pub record ByRow (p : Instance) (starts heads entries : List ℕ) : Type 0 where
   pub small : Small p
   pub spans : (j : ℕ) → j < width p → (getD starts j 0 ≤ getD starts (j + 1) 0) × (getD starts (j + 1) 0 - getD starts j 0 ≡ span p j)
   pub row : (i : ℕ) → i < p .rows → Part heads entries i (rowColumns p i)
+
+-- some instance with more than i rows, or with so many rows, is kept by rows so
+pub record SomeRow (heads entries : List ℕ) (i : ℕ) : Type 0 where
+  pub p : Instance
+  pub starts : List ℕ
+  pub kept : ByRow p starts heads entries
+  pub row : i < p .rows
+
+pub record SomeRows (rows : ℕ) (heads entries : List ℕ) : Type 0 where
+  pub p : Instance
+  pub starts : List ℕ
+  pub rows-is : rows ≡ p .rows
+  pub kept : ByRow p starts heads entries
+
+-- row numbers of an instance; and some instance is kept by rows so, with the row numbers given
+abbrev pub InRows : Instance → List ℕ → Type 0
+InRows p rs = (k : ℕ) → k < length rs → (1 ≤ getD rs k 0) × (getD rs k 0 ≤ p .rows)
+
+pub record SomeBody (heads entries rs : List ℕ) : Type 0 where
+  pub p : Instance
+  pub starts : List ℕ
+  pub kept : ByRow p starts heads entries
+  pub numbered : InRows p rs
+
+-- some instance with more than j columns is kept by columns so
+pub record KeptColumn (starts numbers : List ℕ) (j : ℕ) : Type 0 where
+  pub p : Instance
+  pub kept : ByColumn p starts numbers
+  pub column : j < width p
+
+-- a list holds the columns of row i, or the body of column j, of every instance that is kept so
+abbrev pub IsRow : List ℕ → List ℕ → ℕ → List ℕ → Type 0
+IsRow heads entries i row = (p : Instance) (starts : List ℕ) → ByRow p starts heads entries → i < p .rows → row ≡ rowColumns p i
+
+abbrev pub IsBody : List ℕ → List ℕ → ℕ → List ℕ → Type 0
+IsBody starts numbers j rs = (p : Instance) → ByColumn p starts numbers → j < width p → rs ≡ body p j

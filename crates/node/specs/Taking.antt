@@ -1,39 +1,30 @@
 -- What the steps of taking a column come to, on the tables that they change.
 use mathlib.Core.Bool.{cond}
-use mathlib.Core.List.{List, [], _∷_}
-use Prim.Native.Nat.{ℕ, _+_, _-_, _≤_, _<_}
-use lib.ListN.{length, getD, set}
+use mathlib.Core.List.{List}
+use Prim.Native.Nat.{ℕ, _+_, _-_, _<_}
+use lib.ListN.{getD, set}
 use lib.Dec.{eqb}
 use Rattle.node.specs.declared.Node.{Node}
+use Rattle.node.specs.Passes.{carry}
 use Rattle.node.specs.Instance.{Instance, width}
 use Rattle.node.specs.Node.{costAt}
 use Rattle.node.specs.Stored.{partAt, ByColumn, ByRow}
 
 -- the rows of a body closed
-unfoldable pub closed : List ℕ → List ℕ → List ℕ
-closed [] row = row
-closed (r ∷ rs) row = closed rs (set row (r - 1) 0)
+abbrev pub closed : List ℕ → List ℕ → List ℕ
+closed rs row = carry (λ marks r. set marks (r - 1) 0) row rs
 
 -- column j out, if it is free
-unfoldable pub dropped : ℕ → List ℕ → List ℕ
-dropped j column = cond (eqb (getD column j 0) 1) (set column j 0) column
+unfoldable pub dropped : List ℕ → ℕ → List ℕ
+dropped column j = cond (eqb (getD column j 0) 1) (set column j 0) column
 
 -- the free ones of some columns out
-unfoldable pub allDropped : List ℕ → List ℕ → List ℕ
-allDropped [] column = column
-allDropped (j ∷ js) column = allDropped js (dropped j column)
+abbrev pub allDropped : List ℕ → List ℕ → List ℕ
+allDropped js column = carry dropped column js
 
 -- the free columns of the rows of a body out
-unfoldable pub rowsDropped : List ℕ → List ℕ → List ℕ → List ℕ → List ℕ
-rowsDropped heads entries [] column = column
-rowsDropped heads entries (r ∷ rs) column = rowsDropped heads entries rs (allDropped (partAt heads entries (r - 1)) column)
-
--- the rows of a body are parts of the entries
-pub record RowParts (heads entries body : List ℕ) : Type 0 where
-  pub p : Instance
-  pub starts : List ℕ
-  pub kept : ByRow p starts heads entries
-  pub numbered : (k : ℕ) → k < length body → (1 ≤ getD body k 0) × (getD body k 0 ≤ p .rows)
+abbrev pub rowsDropped : List ℕ → List ℕ → List ℕ → List ℕ → List ℕ
+rowsDropped heads entries rs column = carry (λ marks r. allDropped (partAt heads entries (r - 1)) marks) column rs
 
 -- some instance is kept so, column j is one of its columns, and its cost can be added to the bound
 pub record Takes (s : Node) (j : ℕ) (starts numbers heads entries : List ℕ) : Type 0 where

@@ -3,8 +3,8 @@ ghost use mathlib.Core.Path.{_≡_};
 ghost use Prim.Native.Nat.{_+_, _<_};
 ghost use Rattle.node.specs.Instance.{Instance, width};
 ghost use Rattle.node.specs.Node.{costAt, take, leave};
-ghost use Rattle.node.specs.Stored.{Body, ByColumn, ByRow};
-ghost use Rattle.node.specs.Taking.{closed, allDropped, rowsDropped, RowParts, Takes};
+ghost use Rattle.node.specs.Stored.{Body, ByColumn, ByRow, SomeRow, SomeBody, KeptColumn, IsRow, IsBody};
+ghost use Rattle.node.specs.Taking.{closed, allDropped, rowsDropped, Takes};
 
 // A node of the tree (01: its open sailings, free duties and present prices, its taken duties and its floor).
 pub struct Node {
@@ -16,6 +16,26 @@ pub struct Node {
     pub row: [u8; 64],
     // The lower bound.
     pub bound: u32,
+}
+
+// The columns of row i of a matrix: a part of its entries.
+pub fn row_part<'a>(heads: &[u16; 65], entries: &'a [u8], i: usize) -> &'a [u8]
+    requires { ⌜ SomeRow (now heads) (now entries) i ⌝ }
+    ensures { λ r. ⌜ IsRow (now (heads .entry)) (now (entries .entry)) i (now r) ⌝ }
+{
+    let start = heads[i] as usize;
+    let end = heads[i + 1] as usize;
+    &entries[start..end]
+}
+
+// The body of column j of a matrix: a part of its row numbers.
+pub fn column_part<'a>(starts: &[u16; 257], numbers: &'a [u8], j: usize) -> &'a [u8]
+    requires { ⌜ KeptColumn (now starts) (now numbers) j ⌝ }
+    ensures { λ r. ⌜ IsBody (now (starts .entry)) (now (numbers .entry)) j (now r) ⌝ }
+{
+    let start = starts[j] as usize;
+    let end = starts[j + 1] as usize;
+    &numbers[start..end]
 }
 
 // Closes the rows of a body.
@@ -47,16 +67,14 @@ fn drop_columns(column: &mut [u8; 256], columns: &[u8])
 
 // Marks the free columns of the rows of a body as out.
 fn drop_rows(column: &mut [u8; 256], body: &[u8], heads: &[u16; 65], entries: &[u8])
-    requires { ⌜ RowParts (now heads) (now entries) (now body) ⌝ }
+    requires { ⌜ SomeBody (now heads) (now entries) (now body) ⌝ }
     ensures { λ _. ⌜ now (column .exit) ≡ rowsDropped (now (heads .entry)) (now (entries .entry)) (now (body .entry)) (now (column .entry)) ⌝ }
 {
     let mut k = 0;
     while k < body.len() {
         let r = body[k] as usize;
-        let i = r - 1;
-        let start = heads[i] as usize;
-        let end = heads[i + 1] as usize;
-        drop_columns(column, &entries[start..end]);
+        let row = row_part(heads, entries, r - 1);
+        drop_columns(column, row);
         k += 1;
     }
 }
@@ -75,11 +93,10 @@ impl Node {
         requires { ⌜ Takes self j (now starts) (now numbers) (now heads) (now entries) ⌝ }
         ensures { λ r. ⌜ ((p : Instance) → ByColumn p (now (starts .entry)) (now (numbers .entry)) → ByRow p (now (starts .entry)) (now (heads .entry)) (now (entries .entry)) → j < width p → r ≡ take p self j (self .bound + costAt self j)) ⌝ }
     {
-        let start = starts[j] as usize;
-        let end = starts[j + 1] as usize;
+        let body = column_part(starts, numbers, j);
         let mut n = self;
-        close_rows(&mut n.row, &numbers[start..end]);
-        drop_rows(&mut n.column, &numbers[start..end], heads, entries);
+        close_rows(&mut n.row, body);
+        drop_rows(&mut n.column, body, heads, entries);
         n.column[j] = 2;
         let bound = self.bound + self.cost[j];
         n.bound = bound;

@@ -67,7 +67,7 @@ fn check_contents(file: &[u8]) -> Contents
     let mut total = 0;
     let mut j = 0;
     while j < columns {
-        let e = dutyfile::entry_at(file, j);
+        let e = contents::read_entry(file, j);
         let tested = dutyfile::check_entry(rows, columns, total, e);
         if let Check::Failed(why) = tested {
             return Contents::Failed(why);
@@ -89,7 +89,7 @@ fn check_bodies(file: &[u8]) -> Check
     let columns = column_count(file);
     let mut j = 0;
     while j < columns {
-        let e = dutyfile::entry_at(file, j);
+        let e = contents::read_entry(file, j);
         let start = e.start as usize;
         let end = start + e.size as usize;
         if !dutyfile::is_rising(&file[start..end], rows) {
@@ -150,7 +150,7 @@ fn fill_columns(file: &[u8], costs: &mut [u32], lengths: &mut [u16])
     let columns = column_count(file);
     let mut k = 0;
     while k < columns {
-        let e = dutyfile::entry_at(file, k);
+        let e = contents::read_entry(file, k);
         costs[k] = e.cost;
         lengths[k] = e.size;
         k += 1;

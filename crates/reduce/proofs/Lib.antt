@@ -1,5 +1,3 @@
-mod Lowered
-mod Looped
 mod Filled
 mod Called
 pub mod Prices

@@ -1,3 +1,2 @@
-pub mod Lower
-pub mod Done
+pub mod Room
 pub mod Answer

@@ -94,7 +94,7 @@ module _ (p : Instance) (F : FitsNode p) (o : Variant) (Ok : (ℕ → Bool) → 
         answer-meets Ok value (Shows p Ok value) (fullTree o p) (rootBound o p) limit (report .falls)
         (λ X h. report .cheapest X (h, L .start-comp X h))
 
-  pub demand-3 : (limit : ℕ) → Demand3 p o Ok value limit
+  pub demand-3 : (limit : ℕ) → Demand3 p o Ok value limit (answer o p limit)
   unfolding shownBy
   demand-3 limit =
       let x : Answer = answer o p limit in

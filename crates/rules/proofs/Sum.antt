@@ -9,7 +9,7 @@ use Rattle.node.specs.Lists.{on}
 use Rattle.node.specs.Instance.{Instance, FitsNode, width, price, IsPlan}
 use Rattle.node.specs.Node.{isFree, costAt}
 use Rattle.rules.specs.Reduce.{reduce}
-use Rattle.rules.specs.Tree.{joined, sum}
+use Rattle.rules.specs.Tree.{joined, sum, answer}
 use Rattle.rules.specs.Demand.{Demand3}
 use Rattle.rules.proofs.Sums.{total-one, total-zero}
 use Rattle.rules.proofs.Plans.{root-comp}
@@ -57,5 +57,5 @@ module _ (p : Instance) (F : FitsNode p) where
     );
   }
 
-  pub sum-demand-3 : (limit : ℕ) → Demand3 p (sum p) (IsPlan p) (price p) limit
+  pub sum-demand-3 : (limit : ℕ) → Demand3 p (sum p) (IsPlan p) (price p) limit (answer (sum p) p limit)
   sum-demand-3 = demand-3 p F (sum p) (IsPlan p) (price p) (Good p) sum-laws

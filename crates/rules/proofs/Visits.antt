@@ -43,11 +43,11 @@ module _ (p : Instance) (F : FitsNode p) (o : Variant) (Ok : (ℕ → Bool) → 
 
   -- A row's columns at cost 0, and those above.
   module _ (t : Node) (i k : ℕ) where
-    zero-in : member k (zeros o p t i) ≡ true → FreeIn p t i k
+    pub zero-in : member k (zeros o p t i) ≡ true → FreeIn p t i k
     unfolding zeros
     zero-in h = free-in p t i k (kept (λ j. eqb (o .present t j) 0) k (freeOf p t i) h .1)
 
-    in-zero : FreeIn p t i k → o .present t k ≡ 0 → member k (zeros o p t i) ≡ true
+    pub in-zero : FreeIn p t i k → o .present t k ≡ 0 → member k (zeros o p t i) ≡ true
     unfolding zeros
     in-zero f e =
         member-keep (λ j. eqb (o .present t j) 0) k (freeOf p t i) ∙ rw (eq-eqb (o .present t k) 0 e) (in-free p t i k f)

@@ -1,8 +1,10 @@
 -- The open rows that are left give the best candidate of all.
+use mathlib.Core.Path.{sym, _∙_}
 use Prim.Native.Nat.{_-_}
 use native.Mathlib.Omega.{arith}
 use borrow.Author.Needs.{needs}
-use Rattle.candidates.proofs.Best.{Choosing, choosing-start, choosing-low, choosing-open, choosing-closed, choosing-end}
+use borrow.Author.Tests.{not-false}
+use Rattle.candidates.proofs.Best.{Choosing, choosing-start, choosing-low, choosing-open, choosing-zero, choosing-closed, choosing-end}
 use Rattle.candidates.proofs.best_candidate.Statement.{statement}
 use Rattle.candidates.proofs.best_candidate.Tie as tie
 
@@ -21,27 +23,47 @@ add-i c = omega arith
 element-copy-out-if1 : tie.Need-element-copy-out-if1 Inv-loop μ-loop
 element-copy-out-if1 c = choosing-low _ _ _ _ _ _ _ _ _ (c .before .loop .inv) (c .loop-test .taken)
 
+row-part-requires : tie.Need-row-part-requires Inv-loop μ-loop
+row-part-requires c κs =
+    let k = c .before .before .before .loop .inv .some in
+    record { p = k .p; starts = _; kept = k .kept; row = omega (arith, c .before .before .loop-test .taken, k .rows-is) }
+
+has-zero-requires : tie.Need-has-zero-requires Inv-loop μ-loop
+has-zero-requires c κs = search needs
+
 row-candidate-requires : tie.Need-row-candidate-requires Inv-loop μ-loop
 row-candidate-requires c κs =
-    let k = c .before .before .before .loop .inv .some in
-    record { p = k .p; kept = k .kept; row = omega (arith, c .before .before .loop-test .taken, k .rows-is) }
+    let l = c .before .before .before .before .before in
+    let k = l .before .loop .inv .some in
+    record { p = k .p; kept = k .kept; row = omega (arith, l .loop-test .taken, k .rows-is) }
 
 better-of-requires : tie.Need-better-of-requires Inv-loop μ-loop
 better-of-requires c κs = search needs
 
 loop-less : tie.Need-loop-less Inv-loop μ-loop
-loop-less c = omega (arith, c .before .before .before .before .loop-test .taken)
+loop-less c = omega (arith, c .before .before .before .before .before .before .before .loop-test .taken)
 
 loop-again : tie.Need-loop-again Inv-loop μ-loop
 loop-again c =
-    let l = c .before .before .before .before in
-    choosing-open _ _ _ _ _ _ _ _ _ (l .before .loop .inv) (l .loop-test .taken) (c .before .before .if1 .taken) _ _ (c .before .row-candidate .ensures) (c .better-of .ensures)
+    let f = c .before .before .before .before .before in
+    let l = f .before .before in
+    choosing-open _ _ _ _ _ _ _ _ _ (l .before .loop .inv) (l .loop-test .taken) (f .if1 .taken) _ _ (c .before .row-candidate .ensures) (c .better-of .ensures)
 
 loop-less-2 : tie.Need-loop-less-2 Inv-loop μ-loop
-loop-less-2 c = omega (arith, c .before .before .loop-test .taken)
+loop-less-2 c = omega (arith, c .before .before .before .before .before .loop-test .taken)
 
 loop-again-2 : tie.Need-loop-again-2 Inv-loop μ-loop
 loop-again-2 c =
+    let f = c .before .before .before in
+    let l = f .before .before in
+    let z = sym (not-false _ (c .if2 .left)) ∙ c .before .has-zero .ensures in
+    choosing-zero _ _ _ _ _ _ _ _ _ (l .before .loop .inv) (l .loop-test .taken) (f .if1 .taken) _ (c .before .before .row-part .ensures) z
+
+loop-less-3 : tie.Need-loop-less-3 Inv-loop μ-loop
+loop-less-3 c = omega (arith, c .before .before .loop-test .taken)
+
+loop-again-3 : tie.Need-loop-again-3 Inv-loop μ-loop
+loop-again-3 c =
     let l = c .before .before in
     choosing-closed _ _ _ _ _ _ _ _ _ (l .before .loop .inv) (l .loop-test .taken) (c .if1 .left)
 
@@ -57,10 +79,14 @@ best-candidate-spec =
     loop-holds
     add-i
     element-copy-out-if1
+    row-part-requires
+    has-zero-requires
     row-candidate-requires
     better-of-requires
     loop-less
     loop-again
     loop-less-2
     loop-again-2
+    loop-less-3
+    loop-again-3
     returns)

@@ -13,7 +13,7 @@ abbrev μ-loop : tie.MeasureT-loop
 μ-loop cost column starts row i found₀ k₀ found k = length row - k
 
 loop-holds : tie.Need-loop-holds Inv-loop μ-loop
-loop-holds c = tallying-start _ _ _ _ _ (c .before .pre)
+loop-holds c = tallying-start _ _ _ _ _
 
 shared-slice-read-j : tie.Need-shared-slice-read-j Inv-loop μ-loop
 shared-slice-read-j c = omega arith
@@ -55,7 +55,7 @@ element-copy-out-size-2 c =
 sub-size : tie.Need-sub-size Inv-loop μ-loop
 sub-size c =
     let l = c .before .before .before .before .before .before in
-    omega (arith, l .loop .inv .listed .bodies (l .loop .k) (c .before .before .before .before .before .loop-test .taken) .0)
+    omega (arith, l .before .before .pre .bodies (l .loop .k) (c .before .before .before .before .before .loop-test .taken) .0)
 
 mul-join : tie.Need-mul-join Inv-loop μ-loop
 mul-join c =
@@ -70,12 +70,12 @@ element-copy-out-join c =
 cast-join : tie.Need-cast-join Inv-loop μ-loop
 cast-join c =
     let l = c .before .before .before .before .before .before .before in
-    omega (arith, l .loop .inv .listed .bodies (l .loop .k) (c .before .before .before .before .before .before .loop-test .taken) .1)
+    omega (arith, l .before .before .pre .bodies (l .loop .k) (c .before .before .before .before .before .before .loop-test .taken) .1)
 
 join-requires : tie.Need-join-requires Inv-loop μ-loop
 join-requires c κs =
     let l = c .before .before .before .before .before .before in
-    tallying-few _ _ _ _ _ _ _ (l .before .loop .inv) (l .loop-test .taken)
+    tallying-few _ _ _ _ _ _ _ (l .before .loop .inv) (l .loop-test .taken) (l .before .before .before .pre .few)
 
 loop-less : tie.Need-loop-less Inv-loop μ-loop
 loop-less c = omega (arith, c .before .before .before .before .before .before .before .loop-test .taken)

@@ -3,7 +3,7 @@ use Prim.Native.Nat.{_-_}
 use native.Mathlib.Omega.{arith}
 use borrow.Author.Needs.{needs}
 use Rattle.choice.specs.Row.{precedes}
-use Rattle.choice.proofs.Best.{better-so, better-not}
+use Rattle.node.proofs.Passes.{better-so, better-not}
 use Rattle.choice.proofs.Rows.{Choosing, choosing-start, choosing-low, choosing-open, choosing-closed, choosing-end}
 use Rattle.choice.proofs.branch_row.Statement.{statement}
 use Rattle.choice.proofs.branch_row.Tie as tie

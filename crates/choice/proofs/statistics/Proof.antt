@@ -13,7 +13,7 @@ abbrev μ-loop : tie.MeasureT-loop
 μ-loop cost column row i found₀ k₀ found k = length row - k
 
 loop-holds : tie.Need-loop-holds Inv-loop μ-loop
-loop-holds c = tallying-start _ _ _ _ (c .before .pre)
+loop-holds c = tallying-start _ _ _ _
 
 shared-slice-read-j : tie.Need-shared-slice-read-j Inv-loop μ-loop
 shared-slice-read-j c = omega arith
@@ -40,7 +40,7 @@ element-copy-out-join c =
 join-requires : tie.Need-join-requires Inv-loop μ-loop
 join-requires c κs =
     let l = c .before .before .before .before in
-    tallying-few _ _ _ _ _ _ (l .before .loop .inv) (l .loop-test .taken)
+    tallying-few _ _ _ _ _ _ (l .before .loop .inv) (l .loop-test .taken) (l .before .before .before .pre)
 
 loop-less : tie.Need-loop-less Inv-loop μ-loop
 loop-less c = omega (arith, c .before .before .before .before .before .loop-test .taken)

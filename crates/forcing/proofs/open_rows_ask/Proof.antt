@@ -2,7 +2,8 @@
 use Prim.Native.Nat.{_-_}
 use native.Mathlib.Omega.{arith}
 use borrow.Author.Needs.{needs}
-use Rattle.forcing.proofs.Asking.{Asking, asking-start, asking-row, row-few, asking-dead, asking-open, asking-closed, asking-end}
+use Rattle.node.proofs.Parts.{row-low}
+use Rattle.forcing.proofs.Asking.{Asking, asking-start, asking-row, asking-dead, asking-open, asking-closed, asking-end}
 use Rattle.forcing.proofs.open_rows_ask.Statement.{statement}
 use Rattle.forcing.proofs.open_rows_ask.Tie as tie
 
@@ -19,7 +20,7 @@ add-i : tie.Need-add-i Inv-loop μ-loop
 add-i c = omega arith
 
 element-copy-out-if1 : tie.Need-element-copy-out-if1 Inv-loop μ-loop
-element-copy-out-if1 c = row-few _ _ _ (asking-row _ _ _ _ _ _ _ (c .before .loop .inv) (c .loop-test .taken))
+element-copy-out-if1 c = row-low _ _ _ (asking-row _ _ _ _ _ _ _ (c .before .loop .inv) (c .loop-test .taken))
 
 row-asks-requires : tie.Need-row-asks-requires Inv-loop μ-loop
 row-asks-requires c κs = asking-row _ _ _ _ _ _ _ (c .before .before .before .loop .inv) (c .before .before .loop-test .taken)
@@ -43,8 +44,7 @@ loop-again : tie.Need-loop-again Inv-loop μ-loop
 loop-again c =
     let a = c .before .before in
     let l = a .before .before .before in
-    asking-open _ _ _ _ _ _ _ (l .before .loop .inv) (l .loop-test .taken) (a .before .if1 .taken) _ _ (a .row-asks .ensures)
-    (c .sooner-of .ensures)
+    asking-open _ _ _ _ _ _ _ (l .before .loop .inv) (l .loop-test .taken) (a .before .if1 .taken) _ (a .row-asks .ensures) _ (c .sooner-of .ensures)
 
 loop-less-2 : tie.Need-loop-less-2 Inv-loop μ-loop
 loop-less-2 c = omega (arith, c .before .before .loop-test .taken)

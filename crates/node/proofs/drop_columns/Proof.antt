@@ -2,18 +2,20 @@
 use Prim.Native.Nat.{_-_}
 use lib.ListN.{length}
 use native.Mathlib.Omega.{arith}
-use Rattle.node.proofs.Taking.{Dropping, dropping-start, dropping-free, dropping-other, dropping-end}
+use Rattle.node.specs.Taking.{dropped}
+use Rattle.node.proofs.Passes.{Carrying, carrying-start, carrying-next, carrying-end}
+use Rattle.node.proofs.Taking.{dropped-free, dropped-other}
 use Rattle.node.proofs.drop_columns.Statement.{statement}
 use Rattle.node.proofs.drop_columns.Tie as tie
 
 abbrev Inv-loop : tie.InvT-loop
-Inv-loop column₀ columns k₀ column k = Dropping columns column₀ column k
+Inv-loop column₀ columns k₀ column k = Carrying dropped columns column₀ column k
 
 abbrev μ-loop : tie.MeasureT-loop
 μ-loop column₀ columns k₀ column k = length columns - k
 
 loop-holds : tie.Need-loop-holds Inv-loop μ-loop
-loop-holds c = dropping-start _ _
+loop-holds c = carrying-start _ _ _
 
 shared-slice-read-j : tie.Need-shared-slice-read-j Inv-loop μ-loop
 shared-slice-read-j c = omega arith
@@ -36,7 +38,7 @@ loop-less c = omega arith
 loop-again : tie.Need-loop-again Inv-loop μ-loop
 loop-again c =
     let l = c .before .before .before in
-    dropping-free _ _ _ _ (l .before .loop .inv) (l .loop-test .taken) (c .if1 .taken)
+    carrying-next _ _ _ _ _ (l .before .loop .inv) (l .loop-test .taken) _ (dropped-free _ _ (c .if1 .taken))
 
 loop-less-2 : tie.Need-loop-less-2 Inv-loop μ-loop
 loop-less-2 c = omega arith
@@ -44,10 +46,10 @@ loop-less-2 c = omega arith
 loop-again-2 : tie.Need-loop-again-2 Inv-loop μ-loop
 loop-again-2 c =
     let l = c .before .before .before in
-    dropping-other _ _ _ _ (l .before .loop .inv) (l .loop-test .taken) (c .if1 .left)
+    carrying-next _ _ _ _ _ (l .before .loop .inv) (l .loop-test .taken) _ (dropped-other _ _ (c .if1 .left))
 
 returns : tie.Need-returns Inv-loop μ-loop
-returns c = dropping-end _ _ _ _ (c .before .loop .inv) (c .loop-test .left)
+returns c = carrying-end _ _ _ _ _ (c .before .loop .inv) (c .loop-test .left)
 
 pub drop-columns-spec : {M : Type 1} → statement M
 drop-columns-spec =

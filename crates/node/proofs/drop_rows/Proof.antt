@@ -1,81 +1,57 @@
 -- The rows that are left change the marks as all of them do.
 use Prim.Native.Nat.{_-_}
-use lib.ListN.{length, getD}
+use lib.ListN.{length}
 use native.Mathlib.Omega.{arith}
 use borrow.Author.Needs.{needs}
-use Rattle.node.proofs.Taking.{Sharing, RowPart, sharing-start, sharing-row, sharing-next, sharing-end}
+use Rattle.node.proofs.Parts.{row-low, body-row}
+use Rattle.node.proofs.Passes.{Carrying, carrying-start, carrying-next, carrying-end}
+use Rattle.node.proofs.Taking.{row-dropped}
+use Rattle.node.specs.Stored.{partAt}
+use Rattle.node.specs.Taking.{allDropped}
 use Rattle.node.proofs.drop_rows.Statement.{statement}
 use Rattle.node.proofs.drop_rows.Tie as tie
 
 abbrev Inv-loop : tie.InvT-loop
-Inv-loop column₀ body heads entries k₀ column k = Sharing heads entries body column₀ column k
+Inv-loop column₀ body heads entries k₀ column k =
+    Carrying (λ marks r. allDropped (partAt heads entries (r - 1)) marks) body column₀ column k
 
 abbrev μ-loop : tie.MeasureT-loop
 μ-loop column₀ body heads entries k₀ column k = length body - k
 
--- the row that is looked at
-row : (c : tie.After-shared-slice-known3 Inv-loop μ-loop) → let d = c .before .before .before .before .before in
-    RowPart (d .args .heads .now) (d .args .entries .now) (getD (d .args .body .now) (c .before .before .loop .k) 0)
-row c = sharing-row _ _ _ _ _ _ (c .before .before .loop .inv) (c .before .loop-test .taken)
-
 loop-holds : tie.Need-loop-holds Inv-loop μ-loop
-loop-holds c = sharing-start _ _ _ _ (c .before .before .pre)
+loop-holds c = carrying-start _ _ _
 
 shared-slice-read-r : tie.Need-shared-slice-read-r Inv-loop μ-loop
 shared-slice-read-r c = omega arith
 
 cast-r : tie.Need-cast-r Inv-loop μ-loop
-cast-r c = omega (arith, row c .few)
+cast-r c =
+    omega (arith, row-low _ _ _ (body-row _ _ _ (c .before .before .before .before .before .pre) _ (c .before .loop-test .taken)))
 
-sub-i : tie.Need-sub-i Inv-loop μ-loop
-sub-i c = row c .from-one
+sub-row-part : tie.Need-sub-row-part Inv-loop μ-loop
+sub-row-part c = c .before .before .before .before .before .pre .numbered _ (c .before .loop-test .taken) .0
 
-mul-start : tie.Need-mul-start Inv-loop μ-loop
-mul-start c = omega (arith, row c .few)
-
-element-copy-out-start : tie.Need-element-copy-out-start Inv-loop μ-loop
-element-copy-out-start c = omega (arith, row c .few)
-
-cast-start : tie.Need-cast-start Inv-loop μ-loop
-cast-start c = omega (arith, row (c .before) .rises, row (c .before) .ends)
-
-add-end : tie.Need-add-end Inv-loop μ-loop
-add-end c = omega (arith, row (c .before) .few)
-
-mul-end : tie.Need-mul-end Inv-loop μ-loop
-mul-end c = omega (arith, row (c .before) .from-one, row (c .before) .few)
-
-element-copy-out-end : tie.Need-element-copy-out-end Inv-loop μ-loop
-element-copy-out-end c = omega (arith, row (c .before) .from-one, row (c .before) .few)
-
-cast-end : tie.Need-cast-end Inv-loop μ-loop
-cast-end c = omega (arith, row (c .before .before) .ends)
-
-sub-drop-columns : tie.Need-sub-drop-columns Inv-loop μ-loop
-sub-drop-columns c = omega (arith, row (c .before .before .before) .rises)
-
-part-drop-columns-start : tie.Need-part-drop-columns-start Inv-loop μ-loop
-part-drop-columns-start c = row (c .before .before .before) .rises
-
-part-drop-columns-end : tie.Need-part-drop-columns-end Inv-loop μ-loop
-part-drop-columns-end c = row (c .before .before .before) .ends
+row-part-requires : tie.Need-row-part-requires Inv-loop μ-loop
+row-part-requires c κs = body-row _ _ _ (c .before .before .before .before .before .pre) _ (c .before .loop-test .taken)
 
 drop-columns-requires : tie.Need-drop-columns-requires Inv-loop μ-loop
 drop-columns-requires c κs = search needs
 
 add-k : tie.Need-add-k Inv-loop μ-loop
-add-k c = omega (arith, c .before .before .before .before .before .before .loop-test .taken)
+add-k c = omega (arith, c .before .before .before .before .loop-test .taken)
 
 loop-less : tie.Need-loop-less Inv-loop μ-loop
-loop-less c = omega (arith, c .before .before .before .before .before .before .loop-test .taken)
+loop-less c = omega (arith, c .before .before .before .before .loop-test .taken)
 
 loop-again : tie.Need-loop-again Inv-loop μ-loop
 loop-again c =
-    let l = c .before .before .before .before .before .before in
-    sharing-next _ _ _ _ _ _ (l .before .loop .inv) (l .loop-test .taken) _ (c .drop-columns .ensures)
+    let l = c .before .before .before .before in
+    carrying-next _ _ _ _ _ (l .before .loop .inv) (l .loop-test .taken) _
+    (row-dropped _ _ _ (l .before .before .before .before .pre) _ (l .loop-test .taken) _ _ _ (c .before .before .row-part .ensures)
+    (c .drop-columns .ensures))
 
 returns : tie.Need-returns Inv-loop μ-loop
-returns c = sharing-end _ _ _ _ _ _ (c .before .loop .inv) (c .loop-test .left)
+returns c = carrying-end _ _ _ _ _ (c .before .loop .inv) (c .loop-test .left)
 
 pub drop-rows-spec : {M : Type 1} → statement M
 drop-rows-spec =
@@ -86,17 +62,8 @@ drop-rows-spec =
     loop-holds
     shared-slice-read-r
     cast-r
-    sub-i
-    mul-start
-    element-copy-out-start
-    cast-start
-    add-end
-    mul-end
-    element-copy-out-end
-    cast-end
-    sub-drop-columns
-    part-drop-columns-start
-    part-drop-columns-end
+    sub-row-part
+    row-part-requires
     drop-columns-requires
     add-k
     loop-less

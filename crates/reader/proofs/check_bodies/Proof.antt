@@ -27,15 +27,15 @@ loop-holds c =
     let p = c .before .before .before .pre in
     testing-start _ _ _ (p .0) (p .1 .0) (p .1 .1) (c .before .row-count .ensures) (c .column-count .ensures)
 
-entry-at-requires : tie.Need-entry-at-requires Inv-loop μ-loop
-entry-at-requires c κs =
+read-entry-requires : tie.Need-read-entry-requires Inv-loop μ-loop
+read-entry-requires c κs =
     let w = c .before .loop .inv in
     let h = w .walked .header in
     omega (arith, h .contents, h .counts .columns .most, w .columns-is)
 
 -- the column whose entry was read
-column : (c : tie.After-entry-at Inv-loop μ-loop) → ColumnAt (c .before .before .before .before .before .before .args .file .now) (c .before .before .loop .j) (c .entry-at .result)
-column c = testing-column _ _ _ _ (c .before .before .loop .inv) (c .before .loop-test .taken) _ (c .entry-at .ensures)
+column : (c : tie.After-read-entry Inv-loop μ-loop) → ColumnAt (c .before .before .before .before .before .before .args .file .now) (c .before .before .loop .j) (c .read-entry .result)
+column c = testing-column _ _ _ _ (c .before .before .loop .inv) (c .before .loop-test .taken) _ (c .read-entry .ensures)
 
 cast-start : tie.Need-cast-start Inv-loop μ-loop
 cast-start c = search needs
@@ -63,7 +63,7 @@ unfolding faultOf
 returns c =
     let r = c .before in
     let e = r .before .before .before .before in
-    testing-stop _ _ _ _ (e .before .before .loop .inv) (e .before .loop-test .taken) _ (e .entry-at .ensures) _ (r .is-rising .ensures) (not-true _ (c .if1 .taken))
+    testing-stop _ _ _ _ (e .before .before .loop .inv) (e .before .loop-test .taken) _ (e .read-entry .ensures) _ (r .is-rising .ensures) (not-true _ (c .if1 .taken))
 
 add-j : tie.Need-add-j Inv-loop μ-loop
 add-j c = omega arith
@@ -75,7 +75,7 @@ loop-again : tie.Need-loop-again Inv-loop μ-loop
 loop-again c =
     let r = c .before in
     let e = r .before .before .before .before in
-    testing-next _ _ _ _ (e .before .before .loop .inv) (e .before .loop-test .taken) _ (e .entry-at .ensures) _ (r .is-rising .ensures) (not-false _ (c .if1 .left))
+    testing-next _ _ _ _ (e .before .before .loop .inv) (e .before .loop-test .taken) _ (e .read-entry .ensures) _ (r .is-rising .ensures) (not-false _ (c .if1 .left))
 
 returns-2 : tie.Need-returns-2 Inv-loop μ-loop
 unfolding faultOf
@@ -90,7 +90,7 @@ check-bodies-spec =
     row-count-requires
     column-count-requires
     loop-holds
-    entry-at-requires
+    read-entry-requires
     cast-start
     cast-end
     add-end

@@ -24,8 +24,8 @@ column-count-requires c κs = header-fine _ (c .before .before .pre) .long
 loop-holds : tie.Need-loop-holds Inv-loop μ-loop
 loop-holds c = walking-start _ _ _ (c .before .before .before .pre) (c .before .row-count .ensures) (c .column-count .ensures)
 
-entry-at-requires : tie.Need-entry-at-requires Inv-loop μ-loop
-entry-at-requires c κs =
+read-entry-requires : tie.Need-read-entry-requires Inv-loop μ-loop
+read-entry-requires c κs =
     let w = c .before .loop .inv in
     omega (arith, w .header .contents, w .header .counts .columns .most, w .columns-is)
 
@@ -42,7 +42,7 @@ unfolding contentsOutcome
 returns c =
     let tested = c .before .before .before in
     let l = tested .before .before in
-    walking-stop _ _ _ _ _ (l .before .loop .inv) (l .loop-test .taken) _ (tested .before .entry-at .ensures) _
+    walking-stop _ _ _ _ _ (l .before .loop .inv) (l .loop-test .taken) _ (tested .before .read-entry .ensures) _
     (failed (tested .check-entry .ensures) _ (c .before .tested .given .1))
 
 enum-told : tie.Need-enum-told Inv-loop μ-loop
@@ -52,12 +52,12 @@ next : (c : tie.After-struct-known Inv-loop μ-loop) →
     Walking (c .before .before .before .before .before .before .before .before .before .before .args .file .now)
     (c .before .before .before .before .before .before .before .before .row-count .result)
     (c .before .before .before .before .before .before .before .column-count .result)
-    (c .before .before .before .before .before .before .loop .total + c .before .before .before .before .entry-at .result .size)
+    (c .before .before .before .before .before .before .loop .total + c .before .before .before .before .read-entry .result .size)
     (c .before .before .before .before .before .before .loop .j + 1)
 next c =
     let tested = c .before .before .before in
     let l = tested .before .before in
-    walking-next _ _ _ _ _ (l .before .loop .inv) (l .loop-test .taken) _ (tested .before .entry-at .ensures)
+    walking-next _ _ _ _ _ (l .before .loop .inv) (l .loop-test .taken) _ (tested .before .read-entry .ensures)
     (passed (tested .check-entry .ensures) (c .before .enum-told .given .1))
 
 cast-total : tie.Need-cast-total Inv-loop μ-loop
@@ -88,7 +88,7 @@ check-contents-spec =
     row-count-requires
     column-count-requires
     loop-holds
-    entry-at-requires
+    read-entry-requires
     check-entry-requires
     enum-known-tested
     returns

@@ -23,8 +23,8 @@ loop-holds c =
     let n = c .column-count .ensures in
     (filling-start costOf _ _ _ (p .0) (p .1 .0) n, filling-start sizeOf _ _ _ (p .0) (p .1 .1) n)
 
-entry-at-requires : tie.Need-entry-at-requires Inv-loop μ-loop
-entry-at-requires c κs =
+read-entry-requires : tie.Need-read-entry-requires Inv-loop μ-loop
+read-entry-requires c κs =
     let w = c .before .loop .inv .0 in
     omega (arith, w .header .contents, w .header .counts .columns .most, w .columns-is)
 
@@ -50,8 +50,8 @@ loop-again : tie.Need-loop-again Inv-loop μ-loop
 loop-again c =
     let l = c .before in
     let w = l .before .loop .inv in (
-      filling-next costOf _ _ _ _ _ (w .0) (l .loop-test .taken) _ (c .entry-at .ensures),
-      filling-next sizeOf _ _ _ _ _ (w .1) (l .loop-test .taken) _ (c .entry-at .ensures),
+      filling-next costOf _ _ _ _ _ (w .0) (l .loop-test .taken) _ (c .read-entry .ensures),
+      filling-next sizeOf _ _ _ _ _ (w .1) (l .loop-test .taken) _ (c .read-entry .ensures),
     )
 
 same-length : tie.Need-same-length Inv-loop μ-loop
@@ -74,7 +74,7 @@ fill-columns-spec =
     μ-loop
     column-count-requires
     loop-holds
-    entry-at-requires
+    read-entry-requires
     mul-costs
     slice-write-costs
     mul-lengths

@@ -1,0 +1,6 @@
+mod Seen
+mod Products
+mod Sharing
+mod Column
+mod Columns
+pub mod Picked

@@ -1,0 +1,63 @@
+// Duty files as text, for the test programs: lines of words that are parted by spaces, the last of which is a file in hexadecimal.
+ghost use mathlib.Core.Path.{_≡_};
+ghost use Prim.Native.Nat.{_≤_, min};
+ghost use lib.ListN.{length, replicate};
+
+// The value of a hexadecimal digit, or 0.
+fn digit(b: u8) -> u8
+    ensures { λ r. ⌜ r ≤ 15 ⌝ }
+{
+    if b >= 97 {
+        if b <= 102 {
+            return b - 87;
+        }
+    }
+    if b >= 48 {
+        if b <= 57 {
+            return b - 48;
+        }
+    }
+    0
+}
+
+fn byte(high: u8, low: u8) -> u8 {
+    digit(high) * 16 + digit(low)
+}
+
+// The bytes that a text has in hexadecimal from its second character on, as many as the buffer holds. Gives their number.
+pub fn decode(text: &[u8], file: &mut [u8]) -> usize
+    ensures { λ r. ⌜ r ≤ length (now (file .exit)) ⌝ }
+{
+    let mut n = 0;
+    let mut i = 2;
+    while i < text.len() {
+        if file.len() <= n {
+            return n;
+        }
+        file[n] = byte(text[i - 1], text[i]);
+        n += 1;
+        i += 2;
+    }
+    n
+}
+
+// The place of a byte, from a place on, or the end.
+pub fn find(s: &[u8], from: usize, b: u8) -> usize
+    ensures { λ r. ⌜ (min from (length (now (s .entry))) ≤ r) × (r ≤ length (now (s .entry))) ⌝ }
+{
+    let mut i = from;
+    while i < s.len() {
+        if s[i] == b {
+            return i;
+        }
+        i += 1;
+    }
+    s.len()
+}
+
+// 6,153 places, which are enough to see that a file is too long.
+pub fn file_space() -> [u8; 6153]
+    ensures { λ r. ⌜ r ≡ replicate 6153 0 ⌝ }
+{
+    [0u8; 6153]
+}

@@ -1,0 +1,114 @@
+-- A file is refused by its own tests, since the lists have room for any accepted file; and the front of each list is the file's own list.
+use mathlib.Core.Path.{_≡_, refl, ap, sym, _∙_}
+use mathlib.Core.List.{List}
+use Prim.Native.Nat.{ℕ, _-_, _≤_}
+use native.Mathlib.Nat.{sub-zero}
+use native.Mathlib.Omega.{arith}
+use lib.ListN.{length, getD, take, drop, replicate, length-map}
+use lib.Seq.{take-append-seam}
+use borrow.Author.Tests.{le-leb}
+use Rattle.refusals.specs.Refusals.{Fault, fine, fault, _then_, accepted, refused, unless, numberOf, front, filled}
+use Rattle.refusals.specs.declared.Refusal.{Refusal}
+use Rattle.refusals.proofs.Laws.{passes, accepts, refuses, fills}
+use Rattle.node.specs.Lists.{table}
+use Rattle.dutyfile.specs.declared.Shape.{Shape}
+use Rattle.dutyfile.specs.File.{columnsIn, entries, costOf, sizeOf, parse, sum, instance, shape}
+use Rattle.dutyfile.specs.Faults.{fileFault, roomsFault, reading, contentsFault}
+use Rattle.dutyfile.proofs.Entries.{length-entries}
+use Rattle.dutyfile.proofs.Facts.{Accepted, file-fine, all-pass, contents-small, length-numbers}
+use Rattle.reader.specs.declared.ReadAnswer.{ReadAnswer}
+use Rattle.reader.specs.declared.ReadAnswer.the-variants.{Accepted as accept, Refused as refuse}
+use Rattle.reader.specs.Answer.{readOutcome}
+use Rattle.matrix.specs.Stated.{Stated}
+use Rattle.matrix.proofs.Root.{zeros-after}
+use Rattle.matrix.proofs.Accepted.{file-stated}
+use Rattle.lists.specs.Listed.{Places, Listed}
+
+-- what an accepted file's lists hold
+record Sizes (s : List ℕ) : Type 0 where
+  columns : columnsIn s ≤ 256
+  entries : sum (parse s .lengths) ≤ 4096
+  costs-long : length (parse s .costs) ≡ columnsIn s
+  lengths-long : length (parse s .lengths) ≡ columnsIn s
+  numbers-long : length (parse s .numbers) ≡ sum (parse s .lengths)
+
+sizes : (s : List ℕ) → Accepted s → Sizes s
+unfolding parse contentsFault
+sizes s a = record {
+  columns = a .walked .header .counts .columns .most;
+  entries = contents-small s (a .walked .contents);
+  costs-long = length-map (entries s) costOf ∙ length-entries s;
+  lengths-long = length-map (entries s) sizeOf ∙ length-entries s;
+  numbers-long = length-numbers s (a .walked);
+}
+
+has-room : (s : List ℕ) → Accepted s → roomsFault (shape s) 256 256 4096 ≡ fine
+unfolding roomsFault shape
+has-room s a =
+    let z = sizes s a in
+    all-pass (passes 10 (le-leb _ _ (z .columns))) (all-pass (passes 10 (le-leb _ _ (z .columns))) (passes 10 (le-leb _ _ (z .entries))))
+
+reading-local : (s : List ℕ) → reading s 256 256 4096 ≡ unless (fileFault s) (shape s)
+unfolding reading _then_ unless
+reading-local s = go (fileFault s) refl
+  where
+    go : (f : Fault) → fileFault s ≡ f → unless (f then roomsFault (shape s) 256 256 4096) (shape s) ≡ unless f (shape s)
+    go fine e = rw (has-room s (file-fine s e))
+    go (fault k) e = refl
+
+-- a list at the front of another
+front-take : (new old : List ℕ) (n : ℕ) → length new ≡ n → take n (front new old) ≡ new
+unfolding front
+front-take new old n e = rw (← e) (take-append-seam new (drop (length new) old))
+
+front-table : (new : List ℕ) → length new ≤ 256 → front new (replicate 256 0) ≡ table 256 (λ j. getD new j 0)
+unfolding front
+front-table new h = zeros-after new 256 h
+
+module _ (s : List ℕ) (r : ReadAnswer) (old old′ old″ : List ℕ) (places : Places old old′ old″)
+    (told : readOutcome r ≡ reading s (length old) (length old′) (length old″)) where
+  says : readOutcome r ≡ unless (fileFault s) (shape s)
+  says = rw (places .costs-long, places .lengths-long, places .numbers-long) at told ∙ reading-local s
+
+  pub file-refused : (w : Refusal) → r ≡ refuse w → fileFault s ≡ fault (numberOf w)
+  unfolding readOutcome
+  file-refused w e =
+      let t : refused (numberOf w) ≡ unless (fileFault s) (shape s) = rw e at says in
+      refuses _ _ (numberOf w) (sym t)
+
+  module _ (found : Shape) (e : r ≡ accept found) where
+    tells : (fileFault s ≡ fine) × (shape s ≡ found)
+    unfolding readOutcome
+    tells =
+        let t : accepted found ≡ unless (fileFault s) (shape s) = rw e at says in
+        accepts _ _ _ (sym t)
+
+    filled-is : (new old now : List ℕ) → now ≡ filled (readOutcome r) new old → now ≡ front new old
+    unfolding readOutcome
+    filled-is new old now h = h ∙ fills found new old (rw e)
+
+    pub file-listed : (costs lengths numbers : List ℕ) → costs ≡ filled (readOutcome r) (parse s .costs) old →
+        lengths ≡ filled (readOutcome r) (parse s .lengths) old′ → numbers ≡ filled (readOutcome r) (parse s .numbers) old″ →
+        Listed s found costs lengths numbers
+    unfolding shape
+    file-listed costs lengths numbers h l n =
+        let a : Accepted s = file-fine s (tells .0) in
+        let z : Sizes s = sizes s a in
+        let c : costs ≡ table 256 (λ j. getD (parse s .costs) j 0) =
+        filled-is _ _ _ h ∙ rw (places .costs-zero) (front-table (parse s .costs) (omega (arith, z .costs-long, z .columns))) in
+        let d : take (columnsIn s) lengths ≡ parse s .lengths =
+        ap (take (columnsIn s)) (filled-is _ _ _ l) ∙ front-take (parse s .lengths) old′ (columnsIn s) (z .lengths-long) in
+        let k : take (sum (parse s .lengths)) numbers ≡ parse s .numbers =
+        ap (take (sum (parse s .lengths))) (filled-is _ _ _ n) ∙ front-take (parse s .numbers) old″ (sum (parse s .lengths)) (z .numbers-long) in
+        rw (sym (tells .1)) (record {
+          passes = tells .0;
+          shape-is = refl;
+          columns = z .columns;
+          entries = z .entries;
+          stated = rw (c, d, k) (file-stated s a);
+        })
+
+-- the parts of the lists that a caller hands on
+pub listed-parts : (s : List ℕ) (found : Shape) (costs lengths numbers : List ℕ) → Listed s found costs lengths numbers →
+    Stated (instance (parse s)) (found .rows) (found .columns) costs (take (found .columns - 0) lengths) (take (found .entries - 0) numbers)
+listed-parts s found costs lengths numbers l = rw (sub-zero, sub-zero) (l .stated)

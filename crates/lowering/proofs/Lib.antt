@@ -1,0 +1,2 @@
+mod Lowered
+mod Looped

@@ -1,0 +1,108 @@
+// Reducing a node: the step, and the loop that ends when no candidate is left.
+use candidates::best_candidate;
+use node::Node;
+use node::row_part;
+ghost use mathlib.Core.Path.{_≡_};
+ghost use mathlib.Core.List.{List, []};
+ghost use Prim.Native.Nat.{ℕ, _<_};
+ghost use Rattle.node.specs.Instance.{Instance};
+ghost use Rattle.rules.specs.Reduce as rules;
+ghost use Rattle.node.specs.Stored.{ByRow};
+ghost use Rattle.candidates.specs.Row.{view};
+ghost use Rattle.lowering.specs.Lower.{lowerAt, Covered, Rising, SomeLower};
+ghost use Rattle.lowering.specs.Done.{SomeGood, Done};
+
+// A node reduced, with the rows used, numbered from 1, at the front of a list.
+pub struct Reduction {
+    pub node: Node,
+    pub used: [u8; 64],
+    pub count: usize,
+}
+
+// An amount off the costs of the free columns of a row.
+fn lower_costs(cost: &mut [u32; 256], column: &[u8; 256], row: &[u8], amount: u32)
+    requires { ⌜ Covered (now column) (now cost) amount (now row) × Rising (now row) ⌝ }
+    ensures { λ _. ⌜ now (cost .exit) ≡ lowerAt (now (column .entry)) (now (cost .entry)) amount (now (row .entry)) (now (cost .entry)) ⌝ }
+{
+    let mut k = 0;
+    while k < row.len() {
+        let j = row[k] as usize;
+        k += 1;
+        if column[j] == 1 {
+            cost[j] = cost[j] - amount;
+        }
+    }
+}
+
+// The step on the costs: an amount leaves the free columns of row i.
+fn lower(
+    cost: &mut [u32; 256],
+    column: &[u8; 256],
+    heads: &[u16; 65],
+    entries: &[u8],
+    i: usize,
+    amount: u32,
+)
+    requires { ⌜ SomeLower (now cost) (now column) (now heads) (now entries) i amount ⌝ }
+    ensures { λ _. ⌜ ((p : Instance) (starts : List ℕ) → ByRow p starts (now (heads .entry)) (now (entries .entry)) → i < p .rows → now (cost .exit) ≡ rules.lower p (view (now (cost .entry)) (now (column .entry)) []) i amount .cost) ⌝ }
+{
+    let row = row_part(heads, entries, i);
+    lower_costs(cost, column, row, amount);
+}
+
+// Places for the rows used.
+fn no_rows() -> [u8; 64] {
+    [0u8; 64]
+}
+
+// Reduces a node: while there is a candidate, the best one is used.
+pub fn reduce_node(
+    node: Node,
+    rows: usize,
+    starts: &[u16; 257],
+    heads: &[u16; 65],
+    entries: &[u8],
+) -> Reduction
+    requires { ⌜ SomeGood node rows (now starts) (now heads) (now entries) ⌝ }
+    ensures { λ r. ⌜ ((p : Instance) → rows ≡ p .rows → ByRow p (now (starts .entry)) (now (heads .entry)) (now (entries .entry)) → Done p node r) ⌝ }
+{
+    let mut present = node;
+    let mut used = no_rows();
+    let mut count: usize = 0;
+    let mut best = best_candidate(
+        &present.cost,
+        &present.column,
+        &present.row,
+        rows,
+        starts,
+        heads,
+        entries,
+    );
+    while best.cost != 0 {
+        lower(
+            &mut present.cost,
+            &node.column,
+            heads,
+            entries,
+            best.row as usize,
+            best.cost,
+        );
+        present.bound = present.bound + best.cost;
+        used[count] = (best.row + 1) as u8;
+        count += 1;
+        best = best_candidate(
+            &present.cost,
+            &present.column,
+            &present.row,
+            rows,
+            starts,
+            heads,
+            entries,
+        );
+    }
+    Reduction {
+        node: present,
+        used: used,
+        count: count,
+    }
+}

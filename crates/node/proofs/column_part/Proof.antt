@@ -1,0 +1,57 @@
+-- The body is a part of the row numbers.
+use native.Mathlib.Omega.{arith}
+use Rattle.node.proofs.Parts.{column-at}
+use borrow.Author.Needs.{needs}
+use Rattle.node.proofs.column_part.Statement.{statement}
+use Rattle.node.proofs.column_part.Tie as tie
+
+mul-start : tie.Need-mul-start
+mul-start c = search needs
+
+element-copy-out-start : tie.Need-element-copy-out-start
+element-copy-out-start c = search needs
+
+cast-start : tie.Need-cast-start
+cast-start c =
+    let q = column-at _ _ _ (c .before .pre) in
+    omega (arith, q .rises, q .inside)
+
+add-end : tie.Need-add-end
+add-end c = search needs
+
+mul-end : tie.Need-mul-end
+mul-end c = search needs
+
+element-copy-out-end : tie.Need-element-copy-out-end
+element-copy-out-end c = search needs
+
+cast-end : tie.Need-cast-end
+cast-end c = omega (arith, column-at _ _ _ (c .before .before .pre) .inside)
+
+sub-result : tie.Need-sub-result
+sub-result c = column-at _ _ _ (c .before .before .pre) .rises
+
+part-result-start : tie.Need-part-result-start
+part-result-start c = column-at _ _ _ (c .before .before .pre) .rises
+
+part-result-end : tie.Need-part-result-end
+part-result-end c = column-at _ _ _ (c .before .before .pre) .inside
+
+returns : tie.Need-returns
+returns c = λ p k l. k .column _ l .is
+
+pub column-part-spec : {M : Type 1} → statement M
+column-part-spec =
+    tie.close
+    (tie.spec
+    mul-start
+    element-copy-out-start
+    cast-start
+    add-end
+    mul-end
+    element-copy-out-end
+    cast-end
+    sub-result
+    part-result-start
+    part-result-end
+    returns)
