@@ -1,0 +1,234 @@
+-- `node` and `branch` call each other. Each node that is entered below a branch has a column less that is free, so twice their number, and
+-- one more for a node, falls with each call. What each gives is the walk within the limit, at any fuel above the free columns.
+use mathlib.Core.Path.{_∙_}
+use Prim.Native.Nat.{ℕ, _+_, _*_, _<_}
+use native.Mathlib.Omega.{arith}
+use borrow.Fn.Kinds.{In}
+use borrow.Fn.PlainCycle.{Measures, is, falls, and}
+use borrow.Author.Tests.{not-true, not-false}
+use Rattle.forcing.proofs.Forcing.{frees}
+use Rattle.tree.proofs.Walking.{entered-sum, halted-sum, offered-sum, node-halts, node-ends, node-offers, node-reached, node-branches, can-branch}
+use Rattle.tree.proofs.Walking.{settled-fewer, can-choose, column-low, can-take, first-falls, first-walks, branch-stops}
+use Rattle.tree.proofs.Walking.{branch-reached, branch-goes, second-falls, second-walks}
+use Rattle.tree.proofs.branch.Reads as branch
+use Rattle.tree.proofs.branch.Kinds as branch-kinds
+use Rattle.tree.proofs.+branch+node.Lts-branch as branch-lts
+use Rattle.tree.proofs.node.Reads as node
+use Rattle.tree.proofs.node.Kinds as node-kinds
+use Rattle.tree.proofs.+branch+node.Lts-node as node-lts
+use Rattle.tree.proofs.choose.Reads as choose-reads
+use Rattle.node.proofs.Node.leave.Reads as leave-reads
+use Rattle.node.proofs.Node.take.Reads as take-reads
+use Rattle.visit.proofs.enter.Reads as enter-reads
+use Rattle.visit.proofs.halt.Reads as halt-reads
+use Rattle.visit.proofs.is_reached.Reads as is-reached-reads
+use Rattle.visit.proofs.offer.Reads as offer-reads
+use Rattle.tree.proofs.settle_node.Reads as settle-reads
+use Rattle.tree.proofs.+branch+node.{statement}
+use Rattle.tree.proofs.+branch+node.Tie.{close}
+
+abbrev μ-branch : Measures 4 branch-kinds.ps ℕ
+μ-branch κs a = 2 * frees (a .0)
+
+abbrev μ-node : Measures 4 node-kinds.ps ℕ
+μ-node κs a = 2 * frees (a .0) + 1
+
+abbrev branch-at : ℕ → In 4 branch-kinds.ps
+branch-at t = and 4 branch-kinds.ps (is 4 branch-kinds.ps μ-branch t) branch.Pre
+
+abbrev branch-below : ℕ → In 4 branch-kinds.ps
+branch-below t = and 4 branch-kinds.ps (falls 4 branch-kinds.ps _<_ μ-branch t) branch.Pre
+
+abbrev node-at : ℕ → In 4 node-kinds.ps
+node-at t = and 4 node-kinds.ps (is 4 node-kinds.ps μ-node t) node.Pre
+
+abbrev node-below : ℕ → In 4 node-kinds.ps
+node-below t = and 4 node-kinds.ps (falls 4 node-kinds.ps _<_ μ-node t) node.Pre
+
+-- what each is handed of what it calls: of the other one below t, of the rest as it stands
+abbrev branch-claims : ℕ → branch-lts.Claims
+branch-claims t = (
+  choose-reads.Asked,
+  choose-reads.Learnt,
+  take-reads.Asked,
+  take-reads.Learnt,
+  node-below t,
+  node.Post,
+  is-reached-reads.Asked,
+  is-reached-reads.Learnt,
+  leave-reads.Asked,
+  leave-reads.Learnt,
+)
+
+abbrev node-claims : ℕ → node-lts.Claims
+node-claims t = (
+  halt-reads.Asked,
+  halt-reads.Learnt,
+  enter-reads.Asked,
+  enter-reads.Learnt,
+  settle-reads.Asked,
+  settle-reads.Learnt,
+  offer-reads.Asked,
+  offer-reads.Learnt,
+  is-reached-reads.Asked,
+  is-reached-reads.Learnt,
+  branch-below t,
+  branch.Post,
+)
+
+branch-choose-requires : (t : ℕ) → branch-lts.Need-choose-requires (branch-claims t) (branch-at t) branch.Post
+branch-choose-requires t c κs =
+    can-choose _ _ _ _ _ _ _ (c .before .before .before .before .before .before .pre .1)
+
+branch-take-requires : (t : ℕ) → branch-lts.Need-take-requires (branch-claims t) (branch-at t) branch.Post
+branch-take-requires t c κs =
+    can-take _ _ _ _ _ _ _ _ (c .choose .ensures) (c .before .before .before .before .before .before .before .pre .1)
+
+branch-node-requires : (t : ℕ) → branch-lts.Need-node-requires (branch-claims t) (branch-at t) branch.Post
+branch-node-requires t c κs =
+    let a = c .before .before .before .before .before .before .before .before in
+    let w = a .pre in
+    let d = c .before .choose .ensures in
+    let l = first-falls _ _ _ _ _ (a .args .t1) (a .args .t) _ d _ (c .take .ensures) (w .1) in
+    (omega (arith, l, w .0), first-walks _ _ _ _ _ (a .args .t1) (a .args .t) _ d _ (c .take .ensures) (w .1))
+
+branch-returns : (t : ℕ) → branch-lts.Need-returns (branch-claims t) (branch-at t) branch.Post
+branch-returns t c =
+    let s = c .before .before .before .before .before .before .before .before .before .before in
+    let u = c .before .node in
+    (branch-stops _ _ _ _ _ (s .args .t1) (s .args .t) _ (c .before .before .before .choose .ensures) _ (c .before .before .take .ensures) (u .result) (u .ensures .0) (c .if1 .taken), u .ensures .1)
+
+branch-is-reached-requires : (t : ℕ) → branch-lts.Need-is-reached-requires (branch-claims t) (branch-at t) branch.Post
+branch-is-reached-requires t c κs = tt
+
+branch-returns-2 : (t : ℕ) → branch-lts.Need-returns-2 (branch-claims t) (branch-at t) branch.Post
+branch-returns-2 t c =
+    let s = c .before .before .before .before .before .before .before .before .before .before .before .before in
+    let a = c .before .before in
+    let u = a .before .node in (
+      branch-reached _ _ _ _ _ (s .args .t1) (s .args .t) _ (a .before .before .before .choose .ensures) _ (a .before .before .take .ensures) (u .result) (u .ensures .0) (a .if1 .left)
+          _ (c .before .is-reached .ensures) (c .if2 .taken),
+      u .ensures .1,
+    )
+
+branch-leave-requires : (t : ℕ) → branch-lts.Need-leave-requires (branch-claims t) (branch-at t) branch.Post
+branch-leave-requires t c κs =
+    column-low _ _ _ _ _ _ _ _ (c .before .before .before .before .before .choose .ensures) (c .before .before .before .before .before .before .before .before .before .before .before .before .pre .1)
+
+branch-node-requires-2 : (t : ℕ) → branch-lts.Need-node-requires-2 (branch-claims t) (branch-at t) branch.Post
+branch-node-requires-2 t c κs =
+    let a = c .before .before .before .before .before .before .before .before .before .before .before .before .before in
+    let w = a .pre in
+    let d = c .before .before .before .before .before .before .choose .ensures in
+    let l = second-falls _ _ _ _ _ (a .args .t1) (a .args .t) _ d _ (c .leave .ensures) (w .1) in
+    (omega (arith, l, w .0), second-walks _ _ _ _ _ (a .args .t1) (a .args .t) _ d _ (c .leave .ensures) (w .1) _ (c .before .before .before .before .node .ensures .1))
+
+branch-returns-3 : (t : ℕ) → branch-lts.Need-returns-3 (branch-claims t) (branch-at t) branch.Post
+branch-returns-3 t c =
+    let s = c .before .before .before .before .before .before .before .before .before .before .before .before .before .before in
+    let a = c .before .before .before .before in
+    let u = a .before .node in (
+      branch-goes _ _ _ _ _ (s .args .t1) (s .args .t) _ (a .before .before .before .choose .ensures) _ (a .before .before .take .ensures) (u .result) (u .ensures .0) (a .if1 .left)
+          _ (c .before .before .before .is-reached .ensures) (c .before .before .if2 .left) _ (c .before .leave .ensures) (c .node2 .result) (c .node2 .ensures .0),
+      c .node2 .ensures .1 ∙ u .ensures .1,
+    )
+
+node-halt-requires : (t : ℕ) → node-lts.Need-halt-requires (node-claims t) (node-at t) node.Post
+node-halt-requires t c κs = tt
+
+node-returns : (t : ℕ) → node-lts.Need-returns (node-claims t) (node-at t) node.Post
+node-returns t c =
+    (node-halts _ _ _ _ _ _ (c .before .before .before .before .before .args .t) (c .before .if1 .taken) (c .halt .result) (c .halt .ensures), halted-sum (c .before .before .before .before .before .args .t) (c .halt .result) (c .halt .ensures))
+
+node-enter-requires : (t : ℕ) → node-lts.Need-enter-requires (node-claims t) (node-at t) node.Post
+node-enter-requires t c κs =
+    let w = c .before .before .before .before .pre .1 in
+    (omega (arith, c .if1 .left), omega (arith, w .count))
+
+node-settle-node-requires : (t : ℕ) → node-lts.Need-settle-node-requires (node-claims t) (node-at t) node.Post
+node-settle-node-requires t c κs = c .before .before .before .before .before .pre .1 .some
+
+node-returns-2 : (t : ℕ) → node-lts.Need-returns-2 (node-claims t) (node-at t) node.Post
+node-returns-2 t c =
+    let v = c .before .before .before .before .before .before .before .before .args .t in
+    let e = c .before .before .before .enter .result in
+    let z = c .before .before .before .before .if1 .left in
+    let u = c .before .before .before .enter .ensures in
+    (node-ends _ _ _ _ _ _ v z e u _ (c .before .before .settle-node .ensures) (not-true _ (c .if2 .taken)), entered-sum v e z u)
+
+node-offer-requires : (t : ℕ) → node-lts.Need-offer-requires (node-claims t) (node-at t) node.Post
+node-offer-requires t c κs = tt
+
+node-returns-3 : (t : ℕ) → node-lts.Need-returns-3 (node-claims t) (node-at t) node.Post
+node-returns-3 t c =
+    let v = c .before .before .before .before .before .before .before .before .before .before .before .args .t in
+    let e = c .before .before .before .before .before .before .enter .result in
+    let z = c .before .before .before .before .before .before .before .if1 .left in
+    let u = c .before .before .before .before .before .before .enter .ensures in (
+      node-offers _ _ _ _ _ _ v z e u _ (c .before .before .before .before .before .settle-node .ensures) (not-false _ (c .before .before .before .if2 .left)) (c .before .if3 .taken) (c .offer .result) (c .offer .ensures),
+      offered-sum e (c .offer .result) _ _ (c .offer .ensures) ∙ entered-sum v e z u,
+    )
+
+node-is-reached-requires : (t : ℕ) → node-lts.Need-is-reached-requires (node-claims t) (node-at t) node.Post
+node-is-reached-requires t c κs = tt
+
+node-returns-4 : (t : ℕ) → node-lts.Need-returns-4 (node-claims t) (node-at t) node.Post
+node-returns-4 t c =
+    let v = c .before .before .before .before .before .before .before .before .before .before .before .before .args .t in
+    let e = c .before .before .before .before .before .before .before .enter .result in
+    let z = c .before .before .before .before .before .before .before .before .if1 .left in
+    let u = c .before .before .before .before .before .before .before .enter .ensures in (
+      node-reached _ _ _ _ _ _ v z e u _ (c .before .before .before .before .before .before .settle-node .ensures) (not-false _ (c .before .before .before .before .if2 .left)) (c .before .before .if3 .left) _
+          (c .before .is-reached .ensures) (c .if4 .taken),
+      entered-sum v e z u,
+    )
+
+node-branch-requires : (t : ℕ) → node-lts.Need-branch-requires (node-claims t) (node-at t) node.Post
+node-branch-requires t c κs =
+    let v = c .before .before .before .before .before .before .before .before .before .before .before .before .args .t in
+    let e = c .before .before .before .before .before .before .before .enter .result in
+    let w = c .before .before .before .before .before .before .before .before .before .before .before .before .pre in
+    let z = c .before .before .before .before .before .before .before .before .if1 .left in
+    let u = c .before .before .before .before .before .before .before .enter .ensures in
+    let x = c .before .before .before .before .before .before .settle-node .ensures in
+    let l = settled-fewer _ _ _ _ _ _ v z e u _ x (w .1) in
+    (omega (arith, l, w .0), can-branch _ _ _ _ _ _ v z e u _ x (not-false _ (c .before .before .before .before .if2 .left)) (c .before .before .if3 .left) (w .1))
+
+node-returns-5 : (t : ℕ) → node-lts.Need-returns-5 (node-claims t) (node-at t) node.Post
+node-returns-5 t c =
+    let v = c .before .before .before .before .before .before .before .before .before .before .before .before .before .args .t in
+    let e = c .before .before .before .before .before .before .before .before .enter .result in
+    let z = c .before .before .before .before .before .before .before .before .before .if1 .left in
+    let u = c .before .before .before .before .before .before .before .before .enter .ensures in (
+      node-branches _ _ _ _ _ _ v z e u _ (c .before .before .before .before .before .before .before .settle-node .ensures) (not-false _ (c .before .before .before .before .before .if2 .left)) (c .before .before .before .if3 .left) _
+          (c .before .before .is-reached .ensures) (c .before .if4 .left) (c .branch .result) (c .branch .ensures .0),
+      c .branch .ensures .1 ∙ entered-sum v e z u,
+    )
+
+pub +branch+node-spec : {M : Type 1} → statement M
++branch+node-spec = close μ-branch μ-node (λ t. branch-lts.spec (branch-claims t)
+    (branch-at t)
+    branch.Post
+    (branch-choose-requires t)
+    (branch-take-requires t)
+    (branch-node-requires t)
+    (branch-returns t)
+    (branch-is-reached-requires t)
+    (branch-returns-2 t)
+    (branch-leave-requires t)
+    (branch-node-requires-2 t)
+    (branch-returns-3 t))
+    λ t. node-lts.spec (node-claims t)
+    (node-at t)
+    node.Post
+    (node-halt-requires t)
+    (node-returns t)
+    (node-enter-requires t)
+    (node-settle-node-requires t)
+    (node-returns-2 t)
+    (node-offer-requires t)
+    (node-returns-3 t)
+    (node-is-reached-requires t)
+    (node-returns-4 t)
+    (node-branch-requires t)
+    (node-returns-5 t)

@@ -1,0 +1,4 @@
+pub mod Frees
+pub mod Settles
+pub mod Choosing
+pub mod Walking

@@ -1,0 +1,3 @@
+pub mod Full
+pub mod Offers
+pub mod Settling

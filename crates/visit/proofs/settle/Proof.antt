@@ -1,0 +1,38 @@
+-- A dead node and a plan are as forcing leaves them; else the forced node is reduced.
+use borrow.Author.Tests.{not-true, not-false}
+use Rattle.visit.proofs.Settling.{can-force, can-reduce, settle-dead, settle-full, settle-open}
+use borrow.Author.Needs.{needs}
+use Rattle.visit.proofs.settle.Statement.{statement}
+use Rattle.visit.proofs.settle.Tie as tie
+
+force-requires : tie.Need-force-requires
+force-requires c κs = can-force _ _ _ _ _ _ (c .before .before .pre)
+
+returns : tie.Need-returns
+returns c = λ p k. settle-dead _ _ _ _ _ _ _ (c .before .before .before .force .ensures) p k (not-true _ (c .if1 .taken))
+
+is-full-requires : tie.Need-is-full-requires
+is-full-requires c κs = search needs
+
+returns-2 : tie.Need-returns-2
+returns-2 c = λ p k.
+    let a = c .before .before .before .before in
+    settle-full _ _ _ _ _ _ _ (a .before .before .before .force .ensures) p k (not-false _ (a .if1 .left)) _ (c .before .is-full .ensures)
+    (c .if2 .taken)
+
+reduce-node-requires : tie.Need-reduce-node-requires
+reduce-node-requires c κs =
+    let a = c .before .before .before .before .before .before .before in
+    can-reduce _ _ _ _ _ _ _ (a .force .ensures) (a .before .before .before .pre)
+
+returns-3 : tie.Need-returns-3
+returns-3 c = λ p k.
+    let b = c .before .before in
+    let a = b .before .before .before .before in
+    settle-open _ _ _ _ _ _ _ (a .before .before .before .force .ensures) p k (not-false _ (a .if1 .left)) _ (b .before .is-full .ensures)
+    (b .if2 .left) _ (c .before .reduce-node .ensures)
+
+pub settle-spec : {M : Type 1} → statement M
+settle-spec =
+    tie.close
+    (tie.spec force-requires returns is-full-requires returns-2 reduce-node-requires returns-3)

@@ -1,0 +1,180 @@
+// The tally of a walk, and what a node comes to when it is forced and reduced.
+use forcing::force;
+use lowering::reduce_node;
+use node::Node;
+ghost use mathlib.Core.Path.{_≡_};
+ghost use mathlib.Core.Bool.{true, _&&_};
+ghost use Prim.Native.Nat.{ℕ, _+_, _≤_, _<_};
+ghost use lib.Dec.{leb};
+ghost use Rattle.node.specs.Instance.{Instance, width};
+ghost use Rattle.node.specs.declared.Node.{Node};
+ghost use Rattle.node.specs.Lists.{isEmpty};
+ghost use Rattle.node.specs.Node.{openRows, taken};
+ghost use Rattle.rules.specs.Limited.{fresh, entered, halted, offered};
+ghost use Rattle.visit.specs.Tally.{shown};
+ghost use Rattle.visit.specs.Settled.{Kept, SomeNode, settled, boundAfter};
+
+// What a walk has come to so far.
+pub struct Tally {
+    // Nodes entered.
+    pub nodes: u32,
+    // Nodes left of the node limit (01: the remaining allowance).
+    pub left: u32,
+    // Whether one more node would have been entered.
+    pub stopped: bool,
+    // Whether there is an incumbent (01: a kept plan).
+    pub kept: bool,
+    // Its cost.
+    pub cost: u32,
+    // The column marks of its node, where 2 is taken.
+    pub plan: [u8; 256],
+}
+
+// Before the root is entered.
+pub fn fresh_tally(limit: u32) -> Tally
+    ensures { λ r. ⌜ ((w : ℕ) → shown w r ≡ fresh limit) ⌝ }
+{
+    Tally {
+        nodes: 0,
+        left: limit,
+        stopped: false,
+        kept: false,
+        cost: 0,
+        plan: [0u8; 256],
+    }
+}
+
+// A node is entered.
+pub fn enter(t: Tally) -> Tally
+    requires { ⌜ (0 < t .left) × (t .nodes + t .left < 4294967296) ⌝ }
+    ensures { λ r. ⌜ ((w : ℕ) → shown w r ≡ entered (shown w t)) ⌝ }
+{
+    let mut u = t;
+    u.nodes = t.nodes + 1;
+    u.left = t.left - 1;
+    u
+}
+
+// A node would be entered and none is left.
+pub fn halt(t: Tally) -> Tally
+    ensures { λ r. ⌜ ((w : ℕ) → shown w r ≡ halted (shown w t)) ⌝ }
+{
+    let mut u = t;
+    u.stopped = true;
+    u
+}
+
+// Whether there is an incumbent and a bound is not below its cost.
+pub fn is_reached(bound: u32, kept: bool, cost: u32) -> bool
+    ensures { λ r. ⌜ r ≡ (kept && leb cost bound) ⌝ }
+{
+    if kept {
+        return cost <= bound;
+    }
+    false
+}
+
+// The taken columns of a node are the incumbent.
+fn keep(t: Tally, s: Node) -> Tally
+    ensures { λ r. ⌜ r ≡ record { nodes = t .nodes; left = t .left; stopped = t .stopped; kept = true; cost = s .bound; plan = s .column } ⌝ }
+{
+    let mut u = t;
+    let plan = s.column;
+    u.kept = true;
+    u.cost = s.bound;
+    u.plan = plan;
+    u
+}
+
+// A plan is met: the taken columns of a node with no open row.
+pub fn offer(t: Tally, s: Node) -> Tally
+    ensures { λ r. ⌜ ((p : Instance) → shown (width p) r ≡ offered (shown (width p) t) (s .bound) (taken p s)) ⌝ }
+{
+    if is_reached(s.bound, t.kept, t.cost) {
+        return t;
+    }
+    keep(t, s)
+}
+
+// Whether no row is open.
+fn is_full(row: &[u8; 64], rows: usize) -> bool
+    requires { ⌜ rows ≤ 64 ⌝ }
+    ensures { λ r. ⌜ ((p : Instance) (s : Node) → s .row ≡ now (row .entry) → rows ≡ p .rows → r ≡ isEmpty (openRows p s)) ⌝ }
+{
+    let mut i = 0;
+    while i < rows {
+        if row[i] == 1 {
+            return false;
+        }
+        i += 1;
+    }
+    true
+}
+
+// A node forced, and reduced where it is alive and has open rows.
+pub struct Settled {
+    pub node: Node,
+    // Each open row has a free column.
+    pub alive: bool,
+    // It is alive and no row is open: its taken columns are a plan.
+    pub full: bool,
+}
+
+// Forces a node, and reduces it where it is alive and has open rows.
+pub fn settle(
+    s: Node,
+    rows: usize,
+    starts: &[u16; 257],
+    numbers: &[u8],
+    heads: &[u16; 65],
+    entries: &[u8],
+) -> Settled
+    requires { ⌜ SomeNode s rows (now starts) (now numbers) (now heads) (now entries) ⌝ }
+    ensures { λ r. ⌜ ((p : Instance) → Kept p rows (now (starts .entry)) (now (numbers .entry)) (now (heads .entry)) (now (entries .entry)) → r ≡ settled p s) ⌝ }
+{
+    let forced = force(s, rows, starts, numbers, heads, entries);
+    let node = forced.node;
+    if !forced.alive {
+        return Settled {
+            node: node,
+            alive: false,
+            full: false,
+        };
+    }
+    if is_full(&node.row, rows) {
+        return Settled {
+            node: node,
+            alive: true,
+            full: true,
+        };
+    }
+    let done = reduce_node(node, rows, starts, heads, entries);
+    let reduced = done.node;
+    Settled {
+        node: reduced,
+        alive: true,
+        full: false,
+    }
+}
+
+// The bound of a node after forcing and reducing, or after forcing if it is a plan (01, of the root: root floor).
+pub fn settled_bound(
+    s: Node,
+    rows: usize,
+    starts: &[u16; 257],
+    numbers: &[u8],
+    heads: &[u16; 65],
+    entries: &[u8],
+) -> u32
+    requires { ⌜ SomeNode s rows (now starts) (now numbers) (now heads) (now entries) ⌝ }
+    ensures { λ r. ⌜ ((p : Instance) → Kept p rows (now (starts .entry)) (now (numbers .entry)) (now (heads .entry)) (now (entries .entry)) → r ≡ boundAfter p s) ⌝ }
+{
+    let found = settle(s, rows, starts, numbers, heads, entries);
+    let node = found.node;
+    if found.alive {
+        return node.bound;
+    }
+    let done = reduce_node(node, rows, starts, heads, entries);
+    let reduced = done.node;
+    reduced.bound
+}
