@@ -1,0 +1,89 @@
+-- What is accepted is small, since the tests of a file and of lists bound its numbers.
+use mathlib.Core.Path.{_≡_, refl, ap, sym}
+use mathlib.Core.List.{List}
+use Prim.Native.Nat.{ℕ, _≤_}
+use native.Mathlib.Omega.{arith}
+use lib.ListN.{length}
+use Rattle.refusals.specs.Refusals.{accepted}
+use Rattle.refusals.proofs.Laws.{both, accepts}
+use Rattle.node.specs.Lists.{keep, upto}
+use Rattle.node.specs.Instance.{Instance, FitsNode, width, chosen, price, IsPlan}
+use Rattle.node.proofs.Members.{keep-upto}
+use Rattle.node.specs.Node.{root}
+use Rattle.rules.specs.Reduce as rules
+use Rattle.rules.specs.Search.{nothing, plan, Answer, best, none, stopped, shownBy}
+use Rattle.rules.specs.Tree.{sum, answer}
+use Rattle.rules.specs.Demand.{Demand3}
+use Rattle.rules.proofs.Sum.{sum-demand-3}
+use Rattle.rules.proofs.Reducing.{reduce-used}
+use Rattle.dutyfile.specs.File.{Lists, parse, render, instance, shape}
+use Rattle.dutyfile.specs.Faults.{contentsFault, reading, writing}
+use Rattle.dutyfile.proofs.Facts.{Accepted, file-fine, contents-small}
+use Rattle.dutyfile.proofs.Round.{write-then-read}
+use Rattle.verify.specs.Verdict.{named, checking}
+use Rattle.verify.proofs.Meaning.{verdict-not-once}
+use Rattle.matrix.proofs.Accepted.{file-small}
+use Rattle.reduce.specs.declared.Bound.{Bound}
+use Rattle.reduce.specs.Answer.{reducing, boundOf, reducedRoot}
+use Rattle.search.specs.Answer.{shownOf, valuesOf, fileAnswer, searching}
+use Rattle.spp.specs.Fits.{ShapeFits, LengthFits, RowFits, UsedFits, columnsIn, ColumnsFit}
+
+shape-low : (s : List ℕ) → Accepted s → (shape s .rows ≤ 64) × (shape s .columns ≤ 256) × (shape s .entries ≤ 4096)
+unfolding shape contentsFault
+shape-low s a = (a .walked .header .counts .rows .most, a .walked .header .counts .columns .most, contents-small s (a .walked .contents))
+
+-- a call's answer fits as what is stated does
+pub reading-fits : (s : List ℕ) (c l r : ℕ) → ShapeFits (reading s c l r)
+unfolding reading
+reading-fits s c l r found e =
+    let t = accepts _ _ _ e in
+    rw (sym (t .1)) (shape-low s (file-fine s (both _ _ (t .0) .0)))
+
+pub writing-fits : (d : Lists) (k : ℕ) → LengthFits (writing d k)
+unfolding writing shape
+writing-fits d k size e =
+    let a = file-fine (render d) (write-then-read d k size e .passes) in
+    let z = shape-low (render d) a in
+    omega (arith, accepts _ _ _ e .1, a .walked .end, z .1, z .2)
+
+pub checking-fits : (s js : List ℕ) → RowFits (checking s js)
+unfolding checking instance parse
+checking-fits s js row times e =
+    let t = accepts _ _ _ e in
+    let q = verdict-not-once (instance (parse s)) (named js) row times (t .1) in
+    let a = file-fine s (both _ _ (t .0) .0) in
+    omega (arith, q .1, q .2 .within, file-small s a .fits .tall)
+
+pub reducing-fits : (s : List ℕ) (c o : ℕ) → UsedFits (reducing s c o)
+unfolding reducing boundOf reducedRoot
+reducing-fits s c o found e =
+    let t = accepts _ _ _ e in
+    let a = file-fine s (both _ _ (t .0) .0) in
+    let p : Instance = instance (parse s) in
+    let u : found .used ≡ length (rules.reduce p (root p) .used) = sym (ap (λ (x : Bound). x .used) (t .1)) in
+    omega (arith, u, reduce-used p (file-small s a .fits) (root p), file-small s a .fits .tall)
+
+-- a plan shown has no more columns than there are
+values-low : (p : Instance) → width p ≤ 256 → (limit : ℕ) (x : Answer) → Demand3 p (sum p) (IsPlan p) (price p) limit x →
+    columnsIn (valuesOf x) ≤ 256
+unfolding valuesOf shownOf columnsIn shownBy
+values-low p w limit x d = go x refl
+  where
+    few : (c : ℕ) (js : List ℕ) → shownBy x ≡ plan c js → length js ≤ 256
+    few c js e = let h : length (keep (chosen js) (upto (width p))) ≡ length js = ap length (d .shown c js e .listed) in
+        omega (arith, keep-upto (chosen js) (width p))
+
+    go : (y : Answer) → x ≡ y → columnsIn (valuesOf y) ≤ 256
+    go (best c b n js) e = few c js (rw e)
+    go (none n) e = omega arith
+    go (stopped nothing b n) e = omega arith
+    go (stopped (plan c js) b n) e = few c js (rw e)
+
+pub searching-fits : (s : List ℕ) (limit places : ℕ) → ColumnsFit (searching s limit places)
+unfolding searching fileAnswer
+searching-fits s limit places v e =
+    let t = accepts _ _ _ e in
+    let a = file-fine s (both _ _ (t .0) .0) in
+    let p : Instance = instance (parse s) in
+    let F : FitsNode p = file-small s a .fits in
+    rw (sym (t .1)) (values-low p (F .wide) limit (answer (sum p) p limit) (sum-demand-3 p F limit))

@@ -1,0 +1,146 @@
+/*
+ * A desk plug-in: reads a duty file, searches for the cheapest plan, checks it and prints the roster.
+ *
+ *     gcc -Iinclude examples/desk.c target/staticlib/libspp.a -o desk
+ *     ./desk FILE [ALLOWANCE]
+ *
+ * Exit status: 0 with a roster, 1 if there is no plan to show, 2 with an error.
+ */
+#include <errno.h>
+#include <stdio.h>
+#include <stdlib.h>
+#include <string.h>
+
+#include "spp.h"
+
+/* The file's bytes and its lists as the reader fills them in. */
+struct duties {
+    uint8_t file[SPP_MOST_BYTES + 1];
+    size_t length;
+    uint32_t costs[SPP_MOST_COLUMNS];
+    uint16_t lengths[SPP_MOST_COLUMNS];
+    uint8_t rows[SPP_MOST_ENTRIES];
+    struct spp_shape shape;
+};
+
+static const char *const reasons[] = {
+    "accepted",
+    "not a duty file (it has under 8 bytes or does not begin with SPP1)",
+    "the number of sailings or duties is out of range",
+    "the file ends inside its contents",
+    "a price is out of range",
+    "the number of sailings of a duty is out of range",
+    "more than 4,096 sailing numbers in all",
+    "a duty's body does not start where the former ends",
+    "the file does not end with its last body",
+    "a sailing number is out of range or not rising",
+    "a lent list is too short",
+    "the allowance is not from 1 to 1,000,000",
+    "a duty number is out of range or not rising",
+    "the lists to write disagree in length",
+};
+
+static const char *reason(uint32_t refusal) {
+    if (refusal < sizeof reasons / sizeof *reasons) {
+        return reasons[refusal];
+    }
+    return refusal == SPP_OVERLAP ? "two lent lists overlap" : "a null pointer was lent";
+}
+
+static int refused(const char *call, uint32_t refusal) {
+    fprintf(stderr, "desk: %s refused, %u: %s\n", call, (unsigned)refusal, reason(refusal));
+    return 2;
+}
+
+/* Reads at most one byte more than a duty file may have, so that a longer file is seen to be too long. */
+static int load(const char *name, struct duties *duties) {
+    FILE *stream = fopen(name, "rb");
+    int failed;
+    if (!stream) {
+        fprintf(stderr, "desk: %s: %s\n", name, strerror(errno));
+        return 2;
+    }
+    duties->length = fread(duties->file, 1, sizeof duties->file, stream);
+    failed = ferror(stream);
+    fclose(stream);
+    if (failed) {
+        fprintf(stderr, "desk: %s cannot be read\n", name);
+        return 2;
+    }
+    duties->shape = spp_read(duties->file, duties->length, duties->costs, SPP_MOST_COLUMNS, duties->lengths,
+                             SPP_MOST_COLUMNS, duties->rows, SPP_MOST_ENTRIES);
+    return duties->shape.refusal ? refused("reading", duties->shape.refusal) : 0;
+}
+
+/* Prints one duty with its price and its sailings. */
+static void print_duty(const struct duties *duties, uint16_t column) {
+    size_t start = 0, i;
+    for (i = 0; i + 1 < column; i++) {
+        start += duties->lengths[i];
+    }
+    printf("duty %u, price %u, sailings", (unsigned)column, (unsigned)duties->costs[column - 1]);
+    for (i = 0; i < duties->lengths[column - 1]; i++) {
+        printf(" %u", (unsigned)duties->rows[start + i]);
+    }
+    printf("\n");
+}
+
+/* Checks the plan shown against the file, and prints it. */
+static int print_roster(const struct duties *duties, struct spp_answer answer, const uint16_t *plan) {
+    struct spp_checked checked = spp_check(duties->file, duties->length, plan, answer.columns);
+    size_t i;
+    if (checked.refusal) {
+        return refused("the plan check", checked.refusal);
+    }
+    if (!checked.is_plan || checked.price != answer.price) {
+        fprintf(stderr, "desk: the plan shown does not pass the plan check\n");
+        return 2;
+    }
+    printf("%s roster: %u duties, price %llu, floor %llu, %u nodes\n", answer.outcome == SPP_BEST ? "best" : "stopped",
+           (unsigned)answer.columns, (unsigned long long)answer.price, (unsigned long long)answer.bound,
+           (unsigned)answer.nodes);
+    for (i = 0; i < answer.columns; i++) {
+        print_duty(duties, plan[i]);
+    }
+    return 0;
+}
+
+static int solve(const struct duties *duties, uint32_t node_limit) {
+    uint16_t plan[SPP_MOST_ROWS];
+    struct spp_answer answer = spp_search(duties->file, duties->length, node_limit, plan, SPP_MOST_ROWS);
+    if (answer.refusal) {
+        return refused("the search", answer.refusal);
+    }
+    if (answer.has_plan) {
+        return print_roster(duties, answer, plan);
+    }
+    if (answer.outcome == SPP_NONE) {
+        printf("no roster: no plan exists, %u nodes\n", (unsigned)answer.nodes);
+    } else {
+        printf("no roster: stopped without a plan, floor %llu, %u nodes\n", (unsigned long long)answer.bound,
+               (unsigned)answer.nodes);
+    }
+    return 1;
+}
+
+/* The allowance (the node limit) as a number; 0, which the search refuses, for any other text. */
+static uint32_t limit_of(const char *text) {
+    char *end;
+    unsigned long number = strtoul(text, &end, 10);
+    return *text < '0' || *text > '9' || *end || number > SPP_MOST_NODES ? 0 : (uint32_t)number;
+}
+
+int main(int count, char **words) {
+    static struct duties duties;
+    uint32_t node_limit = SPP_MOST_NODES;
+    int failed;
+    if (count < 2 || count > 3) {
+        fprintf(stderr, "usage: desk FILE [ALLOWANCE]\n");
+        return 2;
+    }
+    if (count == 3) {
+        node_limit = limit_of(words[2]);
+    }
+    failed = load(words[1], &duties);
+    return failed ? failed : solve(&duties, node_limit);
+}

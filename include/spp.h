@@ -1,0 +1,248 @@
+/*
+ * Crew plans from a duty file: the C interface of the engine.
+ *
+ * Link with target/staticlib/libspp.a, which `rt staticlib spp` builds. Call the functions at the end of this file, spp_read to
+ * spp_search. They refuse lists of which any two overlap, and null pointers, before the engine is entered; the functions spp_core_..
+ * are the engine itself, which takes for granted that no two lists overlap and that no pointer is null.
+ *
+ * A row is a sailing, a column a duty; both are numbered from 1. A list is lent as a pointer and the number of its places. A call that
+ * refuses writes to no list. Places beyond what is filled keep their contents. Fields that a case does not use are 0.
+ */
+#ifndef SPP_H
+#define SPP_H
+
+#include <stddef.h>
+#include <stdint.h>
+
+#ifdef __cplusplus
+extern "C" {
+#endif
+
+/* Largest values in an accepted file. */
+#define SPP_MOST_ROWS 64
+#define SPP_MOST_COLUMNS 256
+#define SPP_MOST_ENTRIES 4096
+#define SPP_MOST_BYTES 6152
+#define SPP_MOST_COST 1000000
+#define SPP_MOST_NODES 1000000
+
+/* Values of `refusal`. */
+#define SPP_ACCEPTED 0       /* the call was carried out */
+#define SPP_BAD_MARK 1       /* the file has under 8 bytes, or does not begin with SPP1 */
+#define SPP_BAD_SIZE 2       /* number of rows or columns out of range */
+#define SPP_CUT_CONTENTS 3   /* the file ends inside the contents */
+#define SPP_BAD_COST 4       /* a cost is out of range */
+#define SPP_BAD_LENGTH 5     /* a body length is out of range */
+#define SPP_MANY_ENTRIES 6   /* the body lengths sum to more than 4,096 */
+#define SPP_BAD_START 7      /* a body does not start where the former ends */
+#define SPP_BAD_END 8        /* the file does not end with the last body */
+#define SPP_BAD_ROW 9        /* a row number is out of range, or a body does not rise */
+#define SPP_SHORT_LIST 10    /* a list or buffer lent for the answer is too short */
+#define SPP_BAD_LIMIT 11     /* the node limit is out of range */
+#define SPP_BAD_COLUMN 12    /* an offered column is out of range, or the offered list does not rise */
+#define SPP_UNEQUAL_LISTS 13 /* the writer's lists disagree in length */
+#define SPP_OVERLAP 100      /* two lent lists overlap, or a list reaches beyond the address space */
+#define SPP_NULL 101         /* a null pointer was lent with a number of places above 0 */
+
+/* Values of `outcome`; 0 with a refusal. */
+#define SPP_BEST 1    /* the plan shown is a cheapest one */
+#define SPP_NONE 2    /* the file has no plan */
+#define SPP_STOPPED 3 /* the node limit was reached */
+
+/* What the reader found. */
+struct spp_shape {
+    uint32_t refusal; /* 0, or why nothing was read */
+    uint32_t rows;    /* number of rows, 1 to 64 */
+    uint32_t columns; /* number of columns, 1 to 256 */
+    uint32_t entries; /* number of row numbers in all bodies, at most 4,096 */
+};
+
+/* What the writer wrote. */
+struct spp_written {
+    uint32_t refusal; /* 0, or why nothing was written */
+    uint32_t length;  /* number of bytes written at the front of the buffer */
+};
+
+/* What the plan check found. */
+struct spp_checked {
+    uint32_t refusal; /* 0, or why nothing was checked */
+    uint32_t is_plan; /* 1 if each row is covered exactly once, else 0 */
+    uint32_t row;     /* with no plan: the lowest row not covered exactly once */
+    uint32_t covered; /* with no plan: how often that row is covered */
+    uint64_t price;   /* with a plan: the sum of its costs */
+};
+
+/* What reducing gave. */
+struct spp_reduced {
+    uint32_t refusal; /* 0, or why nothing was reduced */
+    uint32_t used;    /* number of rows used, filled in at the front of the order list */
+    uint64_t bound;   /* the lower bound (floor): no plan costs less */
+};
+
+/* What the search answers. */
+struct spp_answer {
+    uint32_t refusal;  /* 0, or why nothing was searched */
+    uint32_t outcome;  /* SPP_BEST, SPP_NONE or SPP_STOPPED */
+    uint32_t has_plan; /* 1 if a plan is shown, else 0 */
+    uint32_t columns;  /* number of columns of the plan shown, filled in at the front of the plan list */
+    uint32_t nodes;    /* number of nodes entered */
+    uint64_t price;    /* price of the plan shown */
+    uint64_t bound;    /* with best and stopped: the root's lower bound (root floor) */
+};
+
+/* The engine. No two lists of a call may overlap and no pointer may be null, not even for an empty list. */
+struct spp_shape spp_core_read(const uint8_t *file, size_t file_count, uint32_t *costs, size_t cost_count,
+                               uint16_t *lengths, size_t length_count, uint8_t *rows, size_t row_count);
+struct spp_written spp_core_write(uint16_t rows, const uint32_t *costs, size_t cost_count, const uint16_t *lengths,
+                                  size_t length_count, const uint8_t *row_numbers, size_t row_count, uint8_t *out,
+                                  size_t out_count);
+struct spp_checked spp_core_check(const uint8_t *file, size_t file_count, const uint16_t *columns, size_t column_count);
+struct spp_reduced spp_core_reduce(const uint8_t *file, size_t file_count, uint32_t *reduced, size_t reduced_count,
+                                   uint8_t *order, size_t order_count);
+struct spp_answer spp_core_search(const uint8_t *file, size_t file_count, uint32_t node_limit, uint16_t *plan,
+                                  size_t plan_count);
+
+#ifdef __cplusplus
+}
+#endif
+
+/* One lent list, as bytes. */
+struct spp_list {
+    const void *start; /* its first place */
+    size_t count;      /* number of places */
+    size_t size;       /* bytes of one place */
+};
+
+/* Whether a list reaches beyond what the address space holds. */
+static inline int spp_too_long(struct spp_list list) {
+    size_t most = (size_t)PTRDIFF_MAX / list.size;
+    return list.count > most || (uintptr_t)list.start > UINTPTR_MAX - list.count * list.size;
+}
+
+/* Whether two lists, neither of them too long, share a byte. An empty list shares none. */
+static inline int spp_share(struct spp_list a, struct spp_list b) {
+    uintptr_t a_start = (uintptr_t)a.start, b_start = (uintptr_t)b.start;
+    if (a.count == 0 || b.count == 0) {
+        return 0;
+    }
+    return a_start < b_start + b.count * b.size && b_start < a_start + a.count * a.size;
+}
+
+/* The refusal for the lists of one call: SPP_NULL comes before SPP_OVERLAP. */
+static inline uint32_t spp_guard(const struct spp_list *lists, size_t count) {
+    size_t i, j;
+    for (i = 0; i < count; i++) {
+        if (!lists[i].start && lists[i].count > 0) {
+            return SPP_NULL;
+        }
+    }
+    for (i = 0; i < count; i++) {
+        if (spp_too_long(lists[i])) {
+            return SPP_OVERLAP;
+        }
+        for (j = 0; j < i; j++) {
+            if (spp_share(lists[i], lists[j])) {
+                return SPP_OVERLAP;
+            }
+        }
+    }
+    return SPP_ACCEPTED;
+}
+
+/*
+ * Reads a duty file: fills in the cost of each column, the length of each body and the row numbers of all bodies.
+ * The lists must hold as many places as there are columns, columns and entries.
+ */
+static inline struct spp_shape spp_read(const uint8_t *file, size_t file_count, uint32_t *costs, size_t cost_count,
+                                        uint16_t *lengths, size_t length_count, uint8_t *rows, size_t row_count) {
+    const struct spp_list lists[4] = {{file, file_count, sizeof *file},
+                                      {costs, cost_count, sizeof *costs},
+                                      {lengths, length_count, sizeof *lengths},
+                                      {rows, row_count, sizeof *rows}};
+    struct spp_shape refused = {0, 0, 0, 0};
+    uint8_t no_file = 0, no_row = 0;
+    uint32_t no_cost = 0;
+    uint16_t no_length = 0;
+    refused.refusal = spp_guard(lists, 4);
+    if (refused.refusal) {
+        return refused;
+    }
+    return spp_core_read(file ? file : &no_file, file_count, costs ? costs : &no_cost, cost_count,
+                         lengths ? lengths : &no_length, length_count, rows ? rows : &no_row, row_count);
+}
+
+/*
+ * Writes a duty file at the front of `out`. The number of columns is that of the costs; the body lengths are as many, and the row
+ * numbers as many as the lengths sum to.
+ */
+static inline struct spp_written spp_write(uint16_t rows, const uint32_t *costs, size_t cost_count, const uint16_t *lengths,
+                                           size_t length_count, const uint8_t *row_numbers, size_t row_count, uint8_t *out,
+                                           size_t out_count) {
+    const struct spp_list lists[4] = {{costs, cost_count, sizeof *costs},
+                                      {lengths, length_count, sizeof *lengths},
+                                      {row_numbers, row_count, sizeof *row_numbers},
+                                      {out, out_count, sizeof *out}};
+    struct spp_written refused = {0, 0};
+    uint8_t no_row = 0, no_byte = 0;
+    uint32_t no_cost = 0;
+    uint16_t no_length = 0;
+    refused.refusal = spp_guard(lists, 4);
+    if (refused.refusal) {
+        return refused;
+    }
+    return spp_core_write(rows, costs ? costs : &no_cost, cost_count, lengths ? lengths : &no_length, length_count,
+                          row_numbers ? row_numbers : &no_row, row_count, out ? out : &no_byte, out_count);
+}
+
+/* Checks whether the offered columns, rising, are a plan of the file. */
+static inline struct spp_checked spp_check(const uint8_t *file, size_t file_count, const uint16_t *columns,
+                                           size_t column_count) {
+    const struct spp_list lists[2] = {{file, file_count, sizeof *file}, {columns, column_count, sizeof *columns}};
+    struct spp_checked refused = {0, 0, 0, 0, 0};
+    uint8_t no_file = 0;
+    uint16_t no_column = 0;
+    refused.refusal = spp_guard(lists, 2);
+    if (refused.refusal) {
+        return refused;
+    }
+    return spp_core_check(file ? file : &no_file, file_count, columns ? columns : &no_column, column_count);
+}
+
+/*
+ * Reduces the costs of the file: fills in the reduced cost of each column and the rows in the sequence used.
+ * The lists must hold as many places as there are columns and rows.
+ */
+static inline struct spp_reduced spp_reduce(const uint8_t *file, size_t file_count, uint32_t *reduced, size_t reduced_count,
+                                            uint8_t *order, size_t order_count) {
+    const struct spp_list lists[3] = {{file, file_count, sizeof *file},
+                                      {reduced, reduced_count, sizeof *reduced},
+                                      {order, order_count, sizeof *order}};
+    struct spp_reduced refused = {0, 0, 0};
+    uint8_t no_file = 0, no_row = 0;
+    uint32_t no_cost = 0;
+    refused.refusal = spp_guard(lists, 3);
+    if (refused.refusal) {
+        return refused;
+    }
+    return spp_core_reduce(file ? file : &no_file, file_count, reduced ? reduced : &no_cost, reduced_count,
+                           order ? order : &no_row, order_count);
+}
+
+/*
+ * Searches for a cheapest plan and enters at most `node_limit` nodes, 1 to 1,000,000: fills in the plan's columns, rising.
+ * The plan list must hold as many places as there are rows.
+ */
+static inline struct spp_answer spp_search(const uint8_t *file, size_t file_count, uint32_t node_limit, uint16_t *plan,
+                                           size_t plan_count) {
+    const struct spp_list lists[2] = {{file, file_count, sizeof *file}, {plan, plan_count, sizeof *plan}};
+    struct spp_answer refused = {0, 0, 0, 0, 0, 0, 0};
+    uint8_t no_file = 0;
+    uint16_t no_column = 0;
+    refused.refusal = spp_guard(lists, 2);
+    if (refused.refusal) {
+        return refused;
+    }
+    return spp_core_search(file ? file : &no_file, file_count, node_limit, plan ? plan : &no_column, plan_count);
+}
+
+#endif

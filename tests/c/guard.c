@@ -1,0 +1,213 @@
+/*
+ * The guards of include/spp.h: lists that overlap and null pointers are refused before the engine is entered, and nothing is touched.
+ * Each case lends every call's lists at chosen places of one block of memory.
+ */
+#include <stdio.h>
+#include <string.h>
+
+#include "spp.h"
+
+#define BLOCK 8000
+#define APART 1000 /* bytes between the lists' first places */
+#define MOST_LISTS 4
+
+enum call { READ, WRITE, CHECK, REDUCE, SEARCH };
+static const char *const call_names[] = {"spp_read", "spp_write", "spp_check", "spp_reduce", "spp_search"};
+
+/* The lists of each call: how many, and the bytes of one place. */
+static const size_t list_counts[] = {4, 4, 2, 3, 2};
+static const size_t place_sizes[][MOST_LISTS] = {{1, 4, 2, 1}, {4, 2, 1, 1}, {1, 2, 0, 0}, {1, 4, 1, 0}, {1, 2, 0, 0}};
+
+/* Example 1 of the paper: 5 rows, 8 columns, 13 entries. */
+static const uint32_t costs[8] = {3, 7, 5, 8, 10, 4, 6, 9};
+static const uint16_t lengths[8] = {1, 2, 1, 2, 2, 2, 2, 1};
+static const uint8_t rows[13] = {1, 1, 5, 2, 2, 5, 2, 3, 3, 5, 3, 4, 4};
+static const uint16_t plan[3] = {1, 4, 7};
+static uint8_t file[85];
+
+/* The block is aligned for every list. */
+static union {
+    uint64_t aligned;
+    uint8_t bytes[BLOCK];
+} block, before;
+
+/* One lent list: its place in the block, or null, and the number of its places. */
+struct lent {
+    void *start;
+    size_t count;
+};
+
+static unsigned long cases, differences;
+
+static void holds(int condition, enum call call, const char *what) {
+    cases++;
+    if (!condition) {
+        differences++;
+        printf("DIFFERENCE: %s, %s\n", call_names[call], what);
+    }
+}
+
+/* Calls with these lists and gives the refusal. */
+static uint32_t refusal_of(enum call call, const struct lent *l) {
+    switch (call) {
+    case READ:
+        return spp_read((uint8_t *)l[0].start, l[0].count, (uint32_t *)l[1].start, l[1].count, (uint16_t *)l[2].start,
+                        l[2].count, (uint8_t *)l[3].start, l[3].count)
+            .refusal;
+    case WRITE:
+        return spp_write(5, (uint32_t *)l[0].start, l[0].count, (uint16_t *)l[1].start, l[1].count, (uint8_t *)l[2].start,
+                         l[2].count, (uint8_t *)l[3].start, l[3].count)
+            .refusal;
+    case CHECK:
+        return spp_check((uint8_t *)l[0].start, l[0].count, (uint16_t *)l[1].start, l[1].count).refusal;
+    case REDUCE:
+        return spp_reduce((uint8_t *)l[0].start, l[0].count, (uint32_t *)l[1].start, l[1].count, (uint8_t *)l[2].start,
+                          l[2].count)
+            .refusal;
+    default:
+        return spp_search((uint8_t *)l[0].start, l[0].count, 1000, (uint16_t *)l[1].start, l[1].count).refusal;
+    }
+}
+
+/* Fills the block with a pattern and lends each list at a place of its own, with what an accepted call needs. */
+static void lend(enum call call, struct lent *l) {
+    static const size_t counts[][MOST_LISTS] = {{85, 8, 8, 13}, {8, 8, 13, 85}, {85, 3, 0, 0}, {85, 8, 5, 0}, {85, 5, 0, 0}};
+    size_t i;
+    for (i = 0; i < BLOCK; i++) {
+        block.bytes[i] = (uint8_t)(i * 5 + 77);
+    }
+    for (i = 0; i < list_counts[call]; i++) {
+        l[i].start = block.bytes + APART * (i + 1);
+        l[i].count = counts[call][i];
+    }
+    if (call == WRITE) {
+        memcpy(l[0].start, costs, sizeof costs);
+        memcpy(l[1].start, lengths, sizeof lengths);
+        memcpy(l[2].start, rows, sizeof rows);
+    } else {
+        memcpy(l[0].start, file, sizeof file);
+    }
+    if (call == CHECK) {
+        memcpy(l[1].start, plan, sizeof plan);
+    }
+}
+
+/* The call must refuse with this number and leave the whole block as it was. */
+static void refuses(enum call call, const struct lent *l, uint32_t wanted, const char *what) {
+    before = block;
+    holds(refusal_of(call, l) == wanted, call, what);
+    holds(memcmp(&before, &block, sizeof block) == 0, call, "a refusal touched a list");
+}
+
+/* The call must not be refused by a guard. */
+static void enters(enum call call, const struct lent *l, const char *what) {
+    holds(refusal_of(call, l) < SPP_OVERLAP, call, what);
+}
+
+/* Moves list j so that it begins at the byte at an offset from list i, rounded up to the size of its places. */
+static void move(enum call call, struct lent *l, size_t i, size_t j, size_t offset) {
+    size_t size = place_sizes[call][j];
+    l[j].start = (uint8_t *)l[i].start + (offset + size - 1) / size * size;
+}
+
+/* One array lent as two lists, lists that share some bytes, and lists that lie side by side. */
+static void pairs(enum call call) {
+    struct lent l[MOST_LISTS];
+    size_t i, j, bytes;
+    for (i = 0; i < list_counts[call]; i++) {
+        for (j = 0; j < list_counts[call]; j++) {
+            if (i == j) {
+                continue;
+            }
+            lend(call, l);
+            bytes = l[i].count * place_sizes[call][i];
+            move(call, l, i, j, 0);
+            refuses(call, l, SPP_OVERLAP, "one array lent as two lists");
+            if (place_sizes[call][j] <= place_sizes[call][i]) {
+                move(call, l, i, j, bytes - place_sizes[call][j]);
+                refuses(call, l, SPP_OVERLAP, "two lists share their last and first place");
+            }
+            move(call, l, i, j, bytes);
+            enters(call, l, "two lists side by side");
+            lend(call, l);
+            l[j].count = 0;
+            move(call, l, i, j, 0);
+            enters(call, l, "an empty list at another's first place");
+            move(call, l, i, j, bytes / 2);
+            enters(call, l, "an empty list inside another");
+        }
+    }
+}
+
+/* Null pointers, with and without a count, and counts beyond the address space. */
+static void nulls(enum call call) {
+    struct lent l[MOST_LISTS];
+    size_t i, j;
+    for (i = 0; i < list_counts[call]; i++) {
+        lend(call, l);
+        l[i].start = NULL;
+        refuses(call, l, SPP_NULL, "a null pointer with a count");
+        l[i].count = 1;
+        refuses(call, l, SPP_NULL, "a null pointer with count 1");
+        l[i].count = 0;
+        enters(call, l, "a null pointer with count 0");
+        lend(call, l);
+        l[i].count = SIZE_MAX;
+        refuses(call, l, SPP_OVERLAP, "a count beyond the address space");
+        if (place_sizes[call][i] > 1) {
+            l[i].count = SIZE_MAX / place_sizes[call][i] + 1;
+            refuses(call, l, SPP_OVERLAP, "a count whose bytes wrap round to 0");
+        }
+        if (i + 1 < list_counts[call]) {
+            l[i].count = APART / place_sizes[call][i] + 1;
+            refuses(call, l, SPP_OVERLAP, "a list that ends in the next one");
+            l[i].count = APART / place_sizes[call][i];
+            enters(call, l, "a list that ends where the next one starts");
+        }
+        for (j = 0; j < list_counts[call]; j++) {
+            l[j].start = NULL;
+            l[j].count = 0;
+        }
+        enters(call, l, "all lists null and empty");
+    }
+}
+
+static int equal_answers(struct spp_answer a, struct spp_answer b) {
+    return a.refusal == b.refusal && a.outcome == b.outcome && a.has_plan == b.has_plan && a.columns == b.columns &&
+           a.nodes == b.nodes && a.price == b.price && a.bound == b.bound;
+}
+
+/* Accepted calls through the header: stated values, and the same as from the engine. */
+static void accepted(void) {
+    uint32_t read_costs[8], reduced[8];
+    uint16_t read_lengths[8], found[5], core_found[5];
+    uint8_t read_rows[13], order[5];
+    struct spp_shape shape = spp_read(file, 85, read_costs, 8, read_lengths, 8, read_rows, 13);
+    struct spp_checked checked = spp_check(file, 85, plan, 3);
+    struct spp_reduced reduction = spp_reduce(file, 85, reduced, 8, order, 5);
+    struct spp_answer answer = spp_search(file, 85, 1000, found, 5);
+    struct spp_answer core_answer = spp_core_search(file, 85, 1000, core_found, 5);
+    holds(shape.refusal == 0 && shape.rows == 5 && shape.columns == 8 && shape.entries == 13, READ, "example 1");
+    holds(!memcmp(read_costs, costs, sizeof costs) && !memcmp(read_lengths, lengths, sizeof lengths) &&
+              !memcmp(read_rows, rows, sizeof rows),
+          READ, "the lists of example 1");
+    holds(checked.refusal == 0 && checked.is_plan == 1 && checked.price == 17, CHECK, "example 1");
+    holds(reduction.refusal == 0 && reduction.bound == 17 && reduction.used == 4, REDUCE, "example 1");
+    holds(order[0] == 4 && order[1] == 1 && order[2] == 2 && order[3] == 5, REDUCE, "the order of example 1");
+    holds(answer.outcome == SPP_BEST && answer.price == 17 && answer.nodes == 3 && answer.columns == 3, SEARCH, "example 1");
+    holds(!memcmp(found, plan, sizeof plan), SEARCH, "the plan of example 1");
+    holds(equal_answers(answer, core_answer) && !memcmp(found, core_found, sizeof plan), SEARCH, "header and engine");
+}
+
+int main(void) {
+    int call;
+    struct spp_written written = spp_write(5, costs, 8, lengths, 8, rows, 13, file, sizeof file);
+    holds(written.refusal == 0 && written.length == sizeof file, WRITE, "example 1");
+    accepted();
+    for (call = READ; call <= SEARCH; call++) {
+        pairs((enum call)call);
+        nulls((enum call)call);
+    }
+    printf("%9lu  cases of the header's guards compared, %lu differences\n", cases, differences);
+    return differences != 0;
+}

@@ -1,0 +1,57 @@
+//! The answers of the five calls, as in include/spp.h. Fields that a case does not use are 0.
+
+/// Values of `Answer::outcome`.
+pub const BEST: u32 = 1;
+pub const NONE: u32 = 2;
+pub const STOPPED: u32 = 3;
+
+/// What the reader found.
+#[repr(C)]
+#[derive(Clone, Copy, Debug, Default, PartialEq, Eq)]
+pub struct Shape {
+    pub refusal: u32,
+    pub rows: u32,
+    pub columns: u32,
+    pub entries: u32,
+}
+
+/// What the writer wrote.
+#[repr(C)]
+#[derive(Clone, Copy, Debug, Default, PartialEq, Eq)]
+pub struct Written {
+    pub refusal: u32,
+    pub length: u32,
+}
+
+/// What the plan check found.
+#[repr(C)]
+#[derive(Clone, Copy, Debug, Default, PartialEq, Eq)]
+pub struct Checked {
+    pub refusal: u32,
+    pub is_plan: u32,
+    pub row: u32,
+    pub covered: u32,
+    pub price: u64,
+}
+
+/// What reducing gave.
+#[repr(C)]
+#[derive(Clone, Copy, Debug, Default, PartialEq, Eq)]
+pub struct Reduced {
+    pub refusal: u32,
+    pub used: u32,
+    pub bound: u64,
+}
+
+/// What the search answers.
+#[repr(C)]
+#[derive(Clone, Copy, Debug, Default, PartialEq, Eq)]
+pub struct Answer {
+    pub refusal: u32,
+    pub outcome: u32,
+    pub has_plan: u32,
+    pub columns: u32,
+    pub nodes: u32,
+    pub price: u64,
+    pub bound: u64,
+}

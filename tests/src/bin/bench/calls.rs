@@ -1,0 +1,71 @@
+//! The cost of reader, writer, plan check and reducing on the largest file.
+
+use std::hint::black_box;
+
+use spp_tests::files::Columns;
+use spp_tests::{engine, plain};
+
+use crate::measure::{self, keep};
+
+const REPEATS: usize = 31;
+/// Calls in one run.
+const CALLS: usize = 200;
+
+/// 64 rows, 256 columns of 16 rows each: 6,152 bytes.
+fn largest() -> Columns {
+    let body = |column: usize| (0..16).map(|part| (part * 4 + (column + part * column / 7) % 4) as u8 + 1).collect();
+    let costs = (0..256).map(|column| 1000 + (column * 7919) % 9973).collect();
+    Columns { rows: 64, costs, bodies: (0..256).map(body).collect() }
+}
+
+/// Lists with room for any file, lent again in each call.
+struct Lists {
+    costs: [u32; 256],
+    lengths: [u16; 256],
+    rows: [u8; 4096],
+    out: [u8; 6152],
+}
+
+fn lists() -> Box<Lists> {
+    Box::new(Lists { costs: [0; 256], lengths: [0; 256], rows: [0; 4096], out: [0; 6152] })
+}
+
+/// One line: the same call of the engine and of (a), each with lists of its own.
+fn line(name: &str, engine: impl Fn(&mut Lists), base: impl Fn(&mut Lists)) {
+    let (mut first_lists, mut second_lists) = (lists(), lists());
+    let (first, second) = measure::in_turn(
+        REPEATS,
+        || (0..CALLS).for_each(|_| engine(&mut first_lists)),
+        || (0..CALLS).for_each(|_| base(&mut second_lists)),
+    );
+    let each = 1e6 / CALLS as f64;
+    println!("| {name} | {:.2} | {:.2} | {:.2} |", first * each, second * each, first / second);
+}
+
+pub fn table() {
+    let columns = largest();
+    let file = columns.file();
+    let (costs, lengths, numbers) = (columns.costs.clone(), columns.lengths(), columns.numbers());
+    let offered: Vec<u16> = (1..=256).step_by(64).collect();
+    println!("## The other calls on the largest file\n");
+    println!("64 sailings, 256 duties, 4,096 sailing numbers, {} bytes.\n", file.len());
+    println!("| call | engine, µs | (a), µs | ratio |");
+    println!("|---|---|---|---|");
+    line(
+        "read",
+        |l| keep(engine::read(black_box(&file), &mut l.costs, &mut l.lengths, &mut l.rows)),
+        |l| keep(plain::read(black_box(&file), &mut l.costs, &mut l.lengths, &mut l.rows)),
+    );
+    line(
+        "write",
+        |l| keep(engine::write(64, black_box(&costs), &lengths, &numbers, &mut l.out)),
+        |l| keep(plain::write(64, black_box(&costs), &lengths, &numbers, &mut l.out)),
+    );
+    line("check", |_| keep(engine::check(black_box(&file), &offered)), |_| keep(plain::check(black_box(&file), &offered)));
+    line(
+        "reduce",
+        |l| keep(engine::reduce(black_box(&file), &mut l.costs, &mut l.rows)),
+        |l| keep(plain::reduce(black_box(&file), &mut l.costs, &mut l.rows)),
+    );
+    println!();
+}

@@ -1,0 +1,56 @@
+//! Measures the engine's static library and prints tables in Markdown. Nothing here passes or fails.
+//!
+//! `bench solve FILE` is the engine as a process of its own, for the comparison with other solvers.
+
+mod calls;
+mod growth;
+mod measure;
+mod nodes;
+mod solvers;
+mod stack;
+
+use std::fs;
+
+use spp_tests::engine;
+
+/// The processor's name as the system gives it.
+fn processor() -> String {
+    let text = fs::read_to_string("/proc/cpuinfo").unwrap_or_default();
+    let line = text.lines().find(|line| line.starts_with("model name")).unwrap_or_default();
+    line.split_once(": ").map_or("unknown", |parts| parts.1).to_string()
+}
+
+fn machine() {
+    let cores = std::thread::available_parallelism().map_or(0, |count| count.get());
+    let compiler = measure::first_line("rustc", &["--version"]).unwrap_or("an unknown rustc".into());
+    println!("# Benchmarks\n");
+    println!(
+        "Printed by `./bench`. \"Engine\" is the proved static library, \"(a)\" the plain implementation in tests/src/plain,"
+    );
+    println!("both built for release. Times are medians of repeated runs, in processor time (user and system) of one thread or");
+    println!("process; a ratio is the engine's time divided by the other's. Lent lists are not cleared between the runs.\n");
+    println!("- Machine: {}, {cores} cores, {} {}", processor(), std::env::consts::OS, std::env::consts::ARCH);
+    println!("- Compiler of (a): {compiler}\n");
+}
+
+/// The engine as a process: reads a file, searches, prints price and nodes.
+fn solve(name: &str) {
+    let file = fs::read(name).expect("the file can be read");
+    let mut plan = [0; 64];
+    let answer = engine::search(&file, 1_000_000, &mut plan);
+    println!("{} {}", answer.price, answer.nodes);
+}
+
+fn main() {
+    let words: Vec<String> = std::env::args().collect();
+    if words.len() == 3 && words[1] == "solve" {
+        return solve(&words[2]);
+    }
+    machine();
+    let files = nodes::ferry_files();
+    nodes::table(&files);
+    solvers::table(&files);
+    calls::table();
+    growth::table();
+    stack::table();
+}

@@ -1,0 +1,116 @@
+//! The same call of the engine and of `plain`, on lists of equal contents. Each comparison is one case: the answer, every place of every
+//! lent list, and the places before and behind it.
+
+use spp_tests::answers::{Answer, Checked, Reduced, Shape, Written};
+use spp_tests::{engine, plain};
+
+use crate::report::{hex, Report};
+
+/// Places before and behind a lent list.
+const MARGIN: usize = 5;
+
+/// A lent list inside a longer one, all filled with a pattern.
+#[derive(Clone, Debug, PartialEq)]
+pub struct Lent<T> {
+    places: Vec<T>,
+    count: usize,
+}
+
+impl<T: Copy> Lent<T> {
+    fn new(count: usize, pattern: impl Fn(usize) -> T) -> Lent<T> {
+        Lent { places: (0..count + 2 * MARGIN).map(pattern).collect(), count }
+    }
+
+    pub fn list(&self) -> &[T] {
+        &self.places[MARGIN..MARGIN + self.count]
+    }
+
+    fn list_mut(&mut self) -> &mut [T] {
+        &mut self.places[MARGIN..MARGIN + self.count]
+    }
+}
+
+fn bytes(count: usize) -> Lent<u8> {
+    Lent::new(count, |place| (place * 7 + 201) as u8)
+}
+
+fn shorts(count: usize) -> Lent<u16> {
+    Lent::new(count, |place| (place * 11 + 50_001) as u16)
+}
+
+fn words(count: usize) -> Lent<u32> {
+    Lent::new(count, |place| (place * 13 + 4_000_000_001) as u32)
+}
+
+type ReadCall = fn(&[u8], &mut [u32], &mut [u16], &mut [u8]) -> Shape;
+type WriteCall = fn(u16, &[u32], &[u16], &[u8], &mut [u8]) -> Written;
+
+/// The reader's answer, and its lists after the call.
+type Read = (Shape, Lent<u32>, Lent<u16>, Lent<u8>);
+
+pub fn read(report: &mut Report, file: &[u8], rooms: [usize; 3]) -> Read {
+    let run = |call: ReadCall| -> Read {
+        let (mut costs, mut lengths, mut numbers) = (words(rooms[0]), shorts(rooms[1]), bytes(rooms[2]));
+        let shape = call(file, costs.list_mut(), lengths.list_mut(), numbers.list_mut());
+        (shape, costs, lengths, numbers)
+    };
+    let found = run(engine::read);
+    report.same(&found, &run(plain::read), || format!("reader, rooms {rooms:?}, {}", hex(file)));
+    found
+}
+
+/// The lists that the writer takes.
+pub struct Lists {
+    pub rows: u16,
+    pub costs: Vec<u32>,
+    pub lengths: Vec<u16>,
+    pub numbers: Vec<u8>,
+}
+
+pub fn write(report: &mut Report, lists: &Lists, room: usize) -> (Written, Lent<u8>) {
+    let run = |call: WriteCall| {
+        let mut out = bytes(room);
+        (call(lists.rows, &lists.costs, &lists.lengths, &lists.numbers, out.list_mut()), out)
+    };
+    let found = run(engine::write);
+    report.same(&found, &run(plain::write), || {
+        let Lists { rows, costs, lengths, numbers } = lists;
+        format!("writer, rows {rows}, costs {costs:?}, lengths {lengths:?}, row numbers {numbers:?}, room {room}")
+    });
+    found
+}
+
+pub fn check(report: &mut Report, file: &[u8], offered: &[u16]) -> Checked {
+    let found = engine::check(file, offered);
+    report.same(&found, &plain::check(file, offered), || format!("plan check of {offered:?}, {}", hex(file)));
+    found
+}
+
+pub fn reduce(report: &mut Report, file: &[u8], rooms: [usize; 2]) -> (Reduced, Lent<u32>, Lent<u8>) {
+    let run = |call: fn(&[u8], &mut [u32], &mut [u8]) -> Reduced| {
+        let (mut reduced, mut order) = (words(rooms[0]), bytes(rooms[1]));
+        (call(file, reduced.list_mut(), order.list_mut()), reduced, order)
+    };
+    let found = run(engine::reduce);
+    report.same(&found, &run(plain::reduce), || format!("reducing, rooms {rooms:?}, {}", hex(file)));
+    found
+}
+
+pub fn search(report: &mut Report, file: &[u8], limit: u32, room: usize) -> (Answer, Vec<u16>) {
+    let run = |call: fn(&[u8], u32, &mut [u16]) -> Answer| {
+        let mut plan = shorts(room);
+        (call(file, limit, plan.list_mut()), plan)
+    };
+    let found = run(engine::search);
+    report.same(&found, &run(plain::search), || format!("search, allowance {limit}, room {room}, {}", hex(file)));
+    let shown = (found.0.columns as usize).min(room);
+    (found.0, found.1.list()[..shown].to_vec())
+}
+
+/// All four calls that take a file, with room for any file.
+pub fn all_calls(report: &mut Report, file: &[u8], limit: u32) {
+    read(report, file, [256, 256, 4096]);
+    check(report, file, &[1]);
+    reduce(report, file, [256, 64]);
+    search(report, file, limit, 64);
+}

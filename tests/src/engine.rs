@@ -1,0 +1,80 @@
+//! The static library's five calls on slices. Slices are never null and a `&mut` slice overlaps no other, which is what the library asks.
+
+use crate::answers::{Answer, Checked, Reduced, Shape, Written};
+
+extern "C" {
+    fn spp_core_read(
+        file: *const u8,
+        file_count: usize,
+        costs: *mut u32,
+        cost_count: usize,
+        lengths: *mut u16,
+        length_count: usize,
+        rows: *mut u8,
+        row_count: usize,
+    ) -> Shape;
+    fn spp_core_write(
+        rows: u16,
+        costs: *const u32,
+        cost_count: usize,
+        lengths: *const u16,
+        length_count: usize,
+        row_numbers: *const u8,
+        row_count: usize,
+        out: *mut u8,
+        out_count: usize,
+    ) -> Written;
+    fn spp_core_check(file: *const u8, file_count: usize, columns: *const u16, column_count: usize) -> Checked;
+    fn spp_core_reduce(
+        file: *const u8,
+        file_count: usize,
+        reduced: *mut u32,
+        reduced_count: usize,
+        order: *mut u8,
+        order_count: usize,
+    ) -> Reduced;
+    fn spp_core_search(file: *const u8, file_count: usize, node_limit: u32, plan: *mut u16, plan_count: usize) -> Answer;
+}
+
+pub fn read(file: &[u8], costs: &mut [u32], lengths: &mut [u16], numbers: &mut [u8]) -> Shape {
+    unsafe {
+        spp_core_read(
+            file.as_ptr(),
+            file.len(),
+            costs.as_mut_ptr(),
+            costs.len(),
+            lengths.as_mut_ptr(),
+            lengths.len(),
+            numbers.as_mut_ptr(),
+            numbers.len(),
+        )
+    }
+}
+
+pub fn write(rows: u16, costs: &[u32], lengths: &[u16], numbers: &[u8], out: &mut [u8]) -> Written {
+    unsafe {
+        spp_core_write(
+            rows,
+            costs.as_ptr(),
+            costs.len(),
+            lengths.as_ptr(),
+            lengths.len(),
+            numbers.as_ptr(),
+            numbers.len(),
+            out.as_mut_ptr(),
+            out.len(),
+        )
+    }
+}
+
+pub fn check(file: &[u8], offered: &[u16]) -> Checked {
+    unsafe { spp_core_check(file.as_ptr(), file.len(), offered.as_ptr(), offered.len()) }
+}
+
+pub fn reduce(file: &[u8], reduced: &mut [u32], order: &mut [u8]) -> Reduced {
+    unsafe { spp_core_reduce(file.as_ptr(), file.len(), reduced.as_mut_ptr(), reduced.len(), order.as_mut_ptr(), order.len()) }
+}
+
+pub fn search(file: &[u8], limit: u32, plan: &mut [u16]) -> Answer {
+    unsafe { spp_core_search(file.as_ptr(), file.len(), limit, plan.as_mut_ptr(), plan.len()) }
+}

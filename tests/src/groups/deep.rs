@@ -1,0 +1,49 @@
+//! The files with the longest paths, with some node limits; and the deepest searches on a thread with a stack of 2 MiB.
+
+use spp_tests::answers::{Answer, STOPPED};
+use spp_tests::files::{self, Columns};
+use spp_tests::{engine, plain};
+
+use crate::compare;
+use crate::report::{hex, Report};
+
+const STACK: usize = 2 << 20;
+
+fn deep_files() -> [(&'static str, Columns); 3] {
+    [
+        ("equal prices", files::deepest()),
+        ("differing prices", files::deepest_at_differing_costs()),
+        ("with plans", files::deep_with_plans()),
+    ]
+}
+
+pub fn run(report: &mut Report) {
+    report.group("files with the longest paths");
+    println!("files with the longest paths:");
+    for (name, columns) in deep_files() {
+        let file = columns.file();
+        let tree = plain::tree(&file, 20_000).expect("the file is accepted");
+        println!("  {name:<17} {} nodes, longest path {}", tree.answer.nodes, tree.deepest);
+        report.holds(tree.deepest >= 200, || format!("a path of 200 nodes, {}", hex(&file)));
+        let answer = compare::search(report, &file, 20_000, 17).0;
+        for limit in (1..=answer.nodes.min(600)).step_by(29) {
+            let found = compare::search(report, &file, limit, 17).0;
+            report.same(&(found.outcome == STOPPED), &(limit < answer.nodes), || format!("allowance {limit}, {name}"));
+        }
+    }
+}
+
+/// The deepest searches on a small thread. A stack overflow ends the process, so this runs as one of its own.
+pub fn on_small_stack() -> bool {
+    deep_files().iter().all(|(_, columns)| {
+        let file = columns.file();
+        let wanted = plain::tree(&file, 20_000).expect("the file is accepted");
+        let search = move || -> (Answer, [u16; 17]) {
+            let mut plan = [0; 17];
+            (engine::search(&file, 20_000, &mut plan), plan)
+        };
+        let thread = std::thread::Builder::new().stack_size(STACK).spawn(search).expect("a thread starts");
+        let (answer, plan) = thread.join().expect("the search ends");
+        answer == wanted.answer && plan[..answer.columns as usize] == wanted.plan
+    })
+}

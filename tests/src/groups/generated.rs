@@ -1,0 +1,168 @@
+//! Generated files: every call against `plain`, the search against the second solver, every plan shown against the plan check, and floor
+//! plus reduced prices against the price of every plan.
+
+use spp_tests::answers::{Answer, BEST, STOPPED};
+use spp_tests::files::Columns;
+use spp_tests::generate;
+use spp_tests::random::Random;
+use spp_tests::second::{each_plan, least_price, Least};
+
+use super::limits;
+use crate::compare::{self, Lists};
+use crate::report::{hex, Report};
+
+/// Sets of covered rows that the second solver may hold.
+const MOST_SETS: usize = 60_000;
+
+/// A family of generated files.
+struct Family {
+    name: &'static str,
+    make: fn(&mut Random) -> Columns,
+    files: usize,
+    /// The node limit of the search.
+    limit: u32,
+    /// Trees up to this size are searched with every node limit.
+    every_limit: u32,
+    /// Up to this many plans are enumerated.
+    plans: usize,
+}
+
+fn families() -> Vec<Family> {
+    let family = |name, make, files, limit, every_limit, plans| Family { name, make, files, limit, every_limit, plans };
+    vec![
+        family("tiny", generate::tiny, 2000, 1_000_000, 1000, 1000),
+        family("small", generate::small, 1500, 20_000, 400, 1000),
+        family("medium", generate::medium, 500, 3000, 150, 300),
+        family("ferry", generate::ferry, 400, 1000, 60, 100),
+        family("large ferry", generate::large_ferry, 80, 1000, 60, 100),
+        family("dense", generate::dense, 150, 600, 20, 100),
+        family("sparse", generate::sparse, 80, 400, 20, 100),
+    ]
+}
+
+/// What the run says besides the counted cases.
+#[derive(Default)]
+struct Totals {
+    files: usize,
+    stopped: usize,
+    unknown: usize,
+    nodes: u64,
+}
+
+pub fn run(report: &mut Report) {
+    println!("generated files:");
+    for (number, family) in families().iter().enumerate() {
+        let mut random = Random::new(1974 + number as u64);
+        let mut totals = Totals::default();
+        for _ in 0..family.files {
+            one_file(report, family, &mut random, &mut totals);
+        }
+        let Totals { files, stopped, unknown, nodes } = totals;
+        println!(
+            "  {:<12} {files:>5} files, {nodes:>6} nodes, {stopped} stopped, {unknown} too large for the second solver",
+            family.name
+        );
+    }
+}
+
+fn one_file(report: &mut Report, family: &Family, random: &mut Random, totals: &mut Totals) {
+    let columns = (family.make)(random);
+    let file = columns.file();
+    file_and_lists(report, &columns, &file);
+    offered_lists(report, &columns, &file, random);
+    reductions(report, &columns, &file, family.plans);
+    let answer = searches(report, &columns, &file, family.limit, totals);
+    limits::every(report, &columns, &file, &answer, family.every_limit);
+    totals.files += 1;
+    totals.nodes += answer.nodes as u64;
+}
+
+/// Reads the file back, and writes it from what was read.
+fn file_and_lists(report: &mut Report, columns: &Columns, file: &[u8]) {
+    let (n, t) = (columns.costs.len(), columns.entries());
+    report.group("reader: answers and lists against (a)");
+    let read = compare::read(report, file, [n + 2, n, t + 1]);
+    report.group("writer: answers and buffers against (a), and the same bytes again");
+    let lists = Lists {
+        rows: read.0.rows as u16,
+        costs: read.1.list()[..n].to_vec(),
+        lengths: read.2.list()[..n].to_vec(),
+        numbers: read.3.list()[..t].to_vec(),
+    };
+    let (written, out) = compare::write(report, &lists, file.len() + 3);
+    report.same(&written.length, &(file.len() as u32), || hex(file));
+    report.holds(&out.list()[..file.len()] == file, || format!("written again, {}", hex(file)));
+}
+
+/// Offers lists of columns to the plan check: of any columns, rising and not, and beyond the range.
+fn offered_lists(report: &mut Report, columns: &Columns, file: &[u8], random: &mut Random) {
+    report.group("plan check: answers against (a)");
+    let n = columns.costs.len();
+    compare::check(report, file, &[]);
+    for _ in 0..4 {
+        let percent = random.within(2, 60);
+        let mut offered: Vec<u16> = (1..=n as u16).filter(|_| random.chance(percent)).collect();
+        compare::check(report, file, &offered);
+        let fault = [0, 1, n as u16, n as u16 + 1, 256, 257, 65_535][random.within(0, 6)];
+        let place = random.within(0, offered.len());
+        offered.insert(place, fault);
+        compare::check(report, file, &offered);
+    }
+    let whole: Vec<u16> = (1..=n as u16).collect();
+    compare::check(report, file, &whole);
+    compare::check(report, file, &(1..=n as u16 + 1).collect::<Vec<u16>>());
+}
+
+/// Reduces, and holds floor plus reduced prices to the price of each plan.
+fn reductions(report: &mut Report, columns: &Columns, file: &[u8], most_plans: usize) {
+    let n = columns.costs.len();
+    report.group("reducing: answers and lists against (a)");
+    let (answer, reduced, _) = compare::reduce(report, file, [n + 1, columns.rows as usize + 2]);
+    if columns.rows > 30 {
+        return;
+    }
+    report.group("floor plus reduced prices equals price, for plans of generated files");
+    each_plan(columns, most_plans, |plan| {
+        let price: u64 = plan.iter().map(|&column| columns.costs[column as usize - 1] as u64).sum();
+        let rest: u64 = plan.iter().map(|&column| reduced.list()[column as usize - 1] as u64).sum();
+        report.same(&(answer.bound + rest), &price, || format!("plan {plan:?}, {}", hex(file)));
+    });
+}
+
+/// Searches, and holds the answer to the second solver and the plan shown to the plan check.
+fn searches(report: &mut Report, columns: &Columns, file: &[u8], limit: u32, totals: &mut Totals) -> Answer {
+    report.group("search: answers, node counts, root floors and plan lists against (a)");
+    let (answer, plan) = compare::search(report, file, limit, columns.rows as usize + 3);
+    plan_shown(report, columns, file, &answer, &plan);
+    totals.stopped += (answer.outcome == STOPPED) as usize;
+    let least = least_price(columns, MOST_SETS);
+    report.group("search: best price, none and root floor against the second solver");
+    match least {
+        Least::Unknown => totals.unknown += 1,
+        _ if answer.outcome == STOPPED => {
+            if let Least::Price(least) = least {
+                let between = answer.bound <= least && (answer.has_plan == 0 || least <= answer.price);
+                report.holds(between, || format!("{answer:?}, cheapest price {least}, {}", hex(file)));
+            }
+        }
+        _ => {
+            let found = if answer.outcome == BEST { Least::Price(answer.price) } else { Least::NoPlan };
+            report.same(&found, &least, || hex(file));
+            report.holds(answer.bound <= answer.price, || hex(file));
+        }
+    }
+    answer
+}
+
+/// A plan shown is one, by the engine's plan check, by (a)'s, and by the columns as they were made.
+pub fn plan_shown(report: &mut Report, columns: &Columns, file: &[u8], answer: &Answer, plan: &[u16]) {
+    if answer.has_plan == 0 {
+        return;
+    }
+    report.group("plans shown pass the plan check");
+    let checked = compare::check(report, file, plan);
+    report.same(&(checked.is_plan, checked.price), &(1, answer.price), || format!("{plan:?}, {}", hex(file)));
+    let mut covered: Vec<u8> = plan.iter().flat_map(|&column| columns.bodies[column as usize - 1].clone()).collect();
+    covered.sort_unstable();
+    report.holds(covered == (1..=columns.rows as u8).collect::<Vec<u8>>(), || format!("{plan:?}, {}", hex(file)));
+}

@@ -1,0 +1,214 @@
+//! The paper's examples 1 to 4 and 01's "Files to try", with the values that are stated there; and the cases that are proved of the rules.
+
+use spp_tests::answers::{Answer, Shape, BEST, NONE, STOPPED};
+use spp_tests::engine;
+use spp_tests::files::{self, columns, Columns};
+use spp_tests::second::{least_price, Least};
+
+use crate::compare;
+use crate::report::Report;
+
+const LIMIT: u32 = 1_000_000;
+
+fn best(price: u64, bound: u64, nodes: u32, columns: u32) -> Answer {
+    Answer { refusal: 0, outcome: BEST, has_plan: 1, columns, nodes, price, bound }
+}
+
+fn none(nodes: u32) -> Answer {
+    Answer { outcome: NONE, nodes, ..Answer::default() }
+}
+
+fn stopped(bound: u64, nodes: u32) -> Answer {
+    Answer { outcome: STOPPED, nodes, bound, ..Answer::default() }
+}
+
+fn stopped_with(price: u64, bound: u64, nodes: u32, columns: u32) -> Answer {
+    Answer { outcome: STOPPED, has_plan: 1, columns, price, ..stopped(bound, nodes) }
+}
+
+fn triangle() -> Columns {
+    columns(3, &[(&[1, 2], 1), (&[2, 3], 1), (&[1, 3], 1)])
+}
+
+/// A search with a stated answer and plan.
+struct Search {
+    name: &'static str,
+    columns: Columns,
+    limit: u32,
+    answer: Answer,
+    plan: &'static [u16],
+}
+
+fn searches() -> Vec<Search> {
+    let case = |name, columns, limit, answer, plan| Search { name, columns, limit, answer, plan };
+    let twice = columns(1, &[(&[1], 5), (&[1], 5)]);
+    let two_or_one = columns(2, &[(&[1, 2], 9), (&[1], 4), (&[2], 4)]);
+    vec![
+        case("one duty", columns(1, &[(&[1], 5)]), LIMIT, best(5, 5, 1, 1), &[1]),
+        case("the same duty twice", twice, LIMIT, best(5, 5, 2, 1), &[1]),
+        case("a sailing without a duty", columns(2, &[(&[1], 3)]), LIMIT, none(1), &[]),
+        case("two duties cheaper than one", two_or_one, LIMIT, best(8, 8, 2, 2), &[2, 3]),
+        case("triangle", triangle(), LIMIT, none(3), &[]),
+        case("triangle, allowance 2", triangle(), 2, stopped(1, 2), &[]),
+        case("example 1", files::example_1(), LIMIT, best(17, 17, 3, 3), &[1, 4, 7]),
+        case("example 1, allowance 2", files::example_1(), 2, stopped(17, 2), &[]),
+        case("example 2", files::example_2(), LIMIT, best(103, 103, 2, 2), &[3, 5]),
+        case("example 3", files::example_3(), LIMIT, best(26, 22, 4, 4), &[3, 4, 5, 14]),
+        case("example 4, allowance 6", files::example_4(), 6, best(42, 39, 6, 3), &[3, 6, 9]),
+        case("example 4, allowance 5", files::example_4(), 5, stopped_with(46, 39, 5, 3), &[2, 5, 10]),
+        case("example 4, allowance 3", files::example_4(), 3, stopped_with(49, 39, 3, 3), &[5, 7, 8]),
+        case("example 4", files::example_4(), LIMIT, best(42, 39, 6, 3), &[3, 6, 9]),
+    ]
+}
+
+/// A reduction with a stated bound, order and reduced costs.
+struct Reduction {
+    name: &'static str,
+    columns: Columns,
+    bound: u64,
+    order: &'static [u8],
+    reduced: &'static [u32],
+}
+
+fn reductions() -> Vec<Reduction> {
+    let case = |name, columns, bound, order, reduced| Reduction { name, columns, bound, order, reduced };
+    let second: &[u32] = &[0, 19, 0, 1, 0, 3, 15, 37, 19, 8, 8, 10];
+    let third: &[u32] = &[1, 0, 0, 0, 0, 6, 5, 0, 2, 2, 4, 12, 9, 4, 2, 16, 9, 16, 15, 20];
+    vec![
+        case("example 1", files::example_1(), 17, &[4, 1, 2, 5], &[0, 1, 0, 0, 5, 1, 0, 3]),
+        case("example 2", files::example_2(), 103, &[6, 1, 5], second),
+        case("example 3", files::example_3(), 22, &[6, 8, 3, 2, 5], third),
+        case("example 4", files::example_4(), 39, &[1, 2, 3, 6], &[10, 0, 0, 11, 0, 3, 8, 2, 0, 7]),
+    ]
+}
+
+/// The searches of crates/rules/specs/Cases.antt, which hold rules that no file of 01 shows.
+fn rule_searches() -> Vec<Search> {
+    let case = |name, rows, pairs: &[(&[u8], u32)], answer, plan| Search {
+        name,
+        columns: columns(rows, pairs),
+        limit: LIMIT,
+        answer,
+        plan,
+    };
+    vec![
+        case("fewFreeRow", 2, &[(&[1], 1), (&[2], 1), (&[1, 2], 3), (&[1], 2)], best(2, 2, 3, 2), &[1, 2]),
+        case("lowestRow", 3, &[(&[1], 1), (&[2, 3], 1), (&[1, 2, 3], 2)], best(2, 2, 2, 1), &[3]),
+        case("allZero", 3, &[(&[1, 3], 1), (&[2], 1), (&[1], 1), (&[1, 2, 3], 2)], best(2, 2, 2, 1), &[4]),
+        case("leastRatio", 2, &[(&[1], 1), (&[1, 2], 2), (&[2], 1)], best(2, 2, 2, 1), &[2]),
+        case("zeroOnly", 2, &[(&[1], 1), (&[1, 2], 2), (&[2], 1), (&[2], 2)], best(2, 2, 2, 1), &[2]),
+        case(
+            "twoZeros",
+            3,
+            &[(&[1, 3], 1), (&[2, 3], 2), (&[1, 2], 1), (&[2], 6), (&[1, 2], 6), (&[3], 5)],
+            best(6, 2, 4, 2),
+            &[3, 6],
+        ),
+        case("stepBack", 4, &[(&[1, 4], 1), (&[1, 3, 4], 3), (&[2, 3, 4], 2), (&[2], 3)], best(6, 3, 3, 2), &[2, 4]),
+        case("equalPlans", 3, &[(&[2], 3), (&[1, 2], 2), (&[2, 3], 1), (&[1, 3], 1), (&[3], 2)], best(4, 2, 3, 2), &[2, 5]),
+        case(
+            "equalBound",
+            3,
+            &[(&[3], 5), (&[1, 2], 6), (&[1], 2), (&[1, 3], 3), (&[2, 3], 9), (&[1], 2)],
+            best(11, 9, 3, 2),
+            &[1, 2],
+        ),
+    ]
+}
+
+/// The orders of reducing of crates/rules/specs/Cases.antt, one for each of the five criteria and a second one for the fourth.
+fn rule_orders() -> Vec<(&'static str, Columns, Vec<u8>)> {
+    vec![
+        ("fewFree", columns(2, &[(&[1], 1), (&[2], 1), (&[1], 2)]), vec![2, 1]),
+        ("fewLeast", columns(2, &[(&[1], 1), (&[2], 2), (&[1, 2], 1)]), vec![2]),
+        ("dearLeast", columns(2, &[(&[1], 1), (&[2], 2)]), vec![2, 1]),
+        ("shortLeast", columns(3, &[(&[1, 2], 1), (&[3], 1)]), vec![3, 1]),
+        ("anyShort", columns(2, &[(&[2], 2), (&[1, 2], 2), (&[1], 2)]), vec![1]),
+        ("lowRow", columns(2, &[(&[1], 1), (&[2], 1)]), vec![1, 2]),
+    ]
+}
+
+/// One column of all rows, cost 1.
+fn one_column(rows: u16) -> Columns {
+    Columns { rows, costs: vec![1], bodies: vec![(1..=rows as u8).collect()] }
+}
+
+/// 256 columns of the rows 1 to 16; the last one has row 17 too if `one_more`.
+fn most_entries(one_more: bool) -> Columns {
+    let mut bodies = vec![(1..=16).collect::<Vec<u8>>(); 256];
+    if one_more {
+        bodies[255].push(17);
+    }
+    Columns { rows: 17, costs: vec![1; 256], bodies }
+}
+
+/// Files at the limits, with the reader's stated refusal.
+fn limits() -> Vec<(&'static str, Columns, u32)> {
+    let many = |count| Columns { rows: 1, costs: vec![1; count], bodies: vec![vec![1]; count] };
+    vec![
+        ("price 1,000,000", columns(1, &[(&[1], 1_000_000)]), 0),
+        ("price 1,000,001", columns(1, &[(&[1], 1_000_001)]), 4),
+        ("price 0", columns(1, &[(&[1], 0)]), 4),
+        ("m 64", one_column(64), 0),
+        ("m 65", one_column(65), 2),
+        ("m 0", columns(0, &[(&[1], 1)]), 2),
+        ("n 256", many(256), 0),
+        ("n 257", many(257), 2),
+        ("n 0", columns(1, &[]), 2),
+        ("t 4,096", most_entries(false), 0),
+        ("t 4,097", most_entries(true), 6),
+        ("no sailing in a duty", columns(1, &[(&[], 1)]), 5),
+    ]
+}
+
+/// The search's stated answer and plan, and the second solver's price.
+fn stated_search(report: &mut Report, case: &Search) {
+    let found = compare::search(report, &case.columns.file(), case.limit, case.columns.rows as usize);
+    report.same(&found, &(case.answer, case.plan.to_vec()), || case.name.to_string());
+    let wanted = match case.answer.outcome {
+        STOPPED => return,
+        NONE => Least::NoPlan,
+        _ => Least::Price(case.answer.price),
+    };
+    report.same(&least_price(&case.columns, 10_000), &wanted, || format!("second solver, {}", case.name));
+}
+
+fn stated_order(report: &mut Report, name: &str, columns: &Columns, wanted: &[u8]) {
+    let (answer, _, order) = compare::reduce(report, &columns.file(), [columns.costs.len(), columns.rows as usize]);
+    report.same(&&order.list()[..answer.used as usize], &wanted, || name.to_string());
+}
+
+fn stated_reduction(report: &mut Report, case: &Reduction) {
+    let rooms = [case.columns.costs.len(), case.columns.rows as usize];
+    let (answer, reduced, order) = compare::reduce(report, &case.columns.file(), rooms);
+    report.same(&answer.bound, &case.bound, || case.name.to_string());
+    report.same(&&order.list()[..answer.used as usize], &case.order, || case.name.to_string());
+    report.same(&reduced.list(), &case.reduced, || case.name.to_string());
+}
+
+pub fn run(report: &mut Report) {
+    report.group("stated values: the paper's examples, 01's files to try, the cases of the rules");
+    searches().iter().for_each(|case| stated_search(report, case));
+    reductions().iter().for_each(|case| stated_reduction(report, case));
+    rule_searches().iter().for_each(|case| stated_search(report, case));
+    for (name, columns, order) in rule_orders() {
+        stated_order(report, name, &columns, &order);
+    }
+    for (name, columns, refusal) in limits() {
+        let found = compare::read(report, &columns.file(), [256, 256, 4096]);
+        report.same(&found.0.refusal, &refusal, || name.to_string());
+        compare::all_calls(report, &columns.file(), LIMIT);
+    }
+    program_example(report);
+}
+
+/// The 17 bytes that 01 gives for the program.
+fn program_example(report: &mut Report) {
+    let file = [0x53, 0x50, 0x50, 0x31, 1, 0, 1, 0, 5, 0, 0, 0, 0x10, 0, 1, 0, 1];
+    let (mut costs, mut lengths, mut numbers, mut plan) = ([0; 1], [0; 1], [0; 1], [0; 1]);
+    let shape = engine::read(&file, &mut costs, &mut lengths, &mut numbers);
+    report.same(&shape, &Shape { refusal: 0, rows: 1, columns: 1, entries: 1 }, || "the program's file".into());
+    report.same(&(costs, lengths, numbers), &([5], [1], [1]), || "the program's file".into());
+    let answer = engine::search(&file, LIMIT, &mut plan);
+    report.same(&(answer, plan), &(best(5, 5, 1, 1), [1]), || "the program's file".into());
+}

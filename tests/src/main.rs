@@ -1,0 +1,55 @@
+//! Compares the engine's static library with (a), `spp_tests::plain`, and with the second solver. Prints how many cases were compared; the
+//! exit status is 1 if anything differs.
+
+mod compare;
+mod groups;
+mod report;
+
+use std::process::{Command, ExitCode};
+use std::time::Instant;
+
+use report::Report;
+
+/// The word that makes the program run the deepest searches on a small stack.
+const SMALL_STACK: &str = "small-stack";
+
+fn status(passed: bool) -> ExitCode {
+    if passed {
+        ExitCode::SUCCESS
+    } else {
+        ExitCode::FAILURE
+    }
+}
+
+/// Runs this program anew for the deepest searches.
+fn small_stack(report: &mut Report) {
+    report.group("the deepest searches on a thread with a stack of 2 MiB");
+    let program = std::env::current_exe().expect("the program's path is known");
+    let run = Command::new(program).arg(SMALL_STACK).status();
+    report.holds(run.is_ok_and(|status| status.success()), || "the deepest searches differ or need a larger stack".into());
+}
+
+fn compare_all() -> bool {
+    let start = Instant::now();
+    let mut report = Report::default();
+    println!("(a) is the plain implementation in tests/src/plain, the second solver is tests/src/second.rs");
+    groups::worked::run(&mut report);
+    groups::generated::run(&mut report);
+    groups::limits::largest(&mut report);
+    groups::damaged::run(&mut report);
+    groups::rooms::run(&mut report);
+    groups::deep::run(&mut report);
+    small_stack(&mut report);
+    let passed = report.finish();
+    println!("{:.1} seconds", start.elapsed().as_secs_f64());
+    passed
+}
+
+fn main() -> ExitCode {
+    if std::env::args().nth(1).as_deref() == Some(SMALL_STACK) {
+        return status(groups::deep::on_small_stack());
+    }
+    // A large stack here, so that the need of the engine is a matter of its own test alone.
+    let thread = std::thread::Builder::new().stack_size(256 << 20).spawn(compare_all).expect("a thread starts");
+    status(thread.join().unwrap_or(false))
+}

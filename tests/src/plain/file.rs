@@ -1,0 +1,202 @@
+//! The duty file: reading it, writing it, and checking an offered plan.
+
+use crate::answers::{Checked, Shape, Written};
+
+const MOST_ROWS: usize = 64;
+const MOST_COLUMNS: usize = 256;
+const MOST_ENTRIES: usize = 4096;
+const MOST_COST: u32 = 1_000_000;
+
+/// The contents of an accepted file.
+pub struct Duties {
+    pub rows: usize,
+    pub costs: Vec<u32>,
+    pub lengths: Vec<u16>,
+    pub numbers: Vec<u8>,
+}
+
+impl Duties {
+    pub fn columns(&self) -> usize {
+        self.costs.len()
+    }
+}
+
+fn two_bytes(file: &[u8], at: usize) -> usize {
+    u16::from_le_bytes([file[at], file[at + 1]]) as usize
+}
+
+fn four_bytes(file: &[u8], at: usize) -> u32 {
+    u32::from_le_bytes([file[at], file[at + 1], file[at + 2], file[at + 3]])
+}
+
+/// Whether the numbers rise and lie in 1 to `most`.
+fn rising(numbers: impl Iterator<Item = usize>, most: usize) -> bool {
+    let mut former = 0;
+    for number in numbers {
+        if number <= former || number > most {
+            return false;
+        }
+        former = number;
+    }
+    true
+}
+
+/// Reads a file, or gives the refusal that 01's sequence of tests comes to.
+pub fn parse(file: &[u8]) -> Result<Duties, u32> {
+    if file.len() < 8 || &file[0..4] != b"SPP1" {
+        return Err(1);
+    }
+    let (rows, columns) = (two_bytes(file, 4), two_bytes(file, 6));
+    if !(1..=MOST_ROWS).contains(&rows) || !(1..=MOST_COLUMNS).contains(&columns) {
+        return Err(2);
+    }
+    let first_body = 8 + 8 * columns;
+    if file.len() < first_body {
+        return Err(3);
+    }
+    let mut duties =
+        Duties { rows, costs: Vec::with_capacity(columns), lengths: Vec::with_capacity(columns), numbers: Vec::new() };
+    let mut entries = 0;
+    for column in 0..columns {
+        let at = 8 + 8 * column;
+        let (cost, start, length) = (four_bytes(file, at), two_bytes(file, at + 4), two_bytes(file, at + 6));
+        if !(1..=MOST_COST).contains(&cost) {
+            return Err(4);
+        }
+        if !(1..=rows).contains(&length) {
+            return Err(5);
+        }
+        if entries + length > MOST_ENTRIES {
+            return Err(6);
+        }
+        if start != first_body + entries {
+            return Err(7);
+        }
+        entries += length;
+        duties.costs.push(cost);
+        duties.lengths.push(length as u16);
+    }
+    if file.len() != first_body + entries {
+        return Err(8);
+    }
+    duties.numbers.extend_from_slice(&file[first_body..]);
+    if bodies_rise(&duties.lengths, &duties.numbers, rows) {
+        Ok(duties)
+    } else {
+        Err(9)
+    }
+}
+
+/// Whether the row numbers of each body rise and lie in 1 to `rows`.
+fn bodies_rise(lengths: &[u16], numbers: &[u8], rows: usize) -> bool {
+    let mut start = 0;
+    for &length in lengths {
+        let end = start + length as usize;
+        if !rising(numbers[start..end].iter().map(|&row| row as usize), rows) {
+            return false;
+        }
+        start = end;
+    }
+    true
+}
+
+/// The reader.
+pub fn read(file: &[u8], costs: &mut [u32], lengths: &mut [u16], numbers: &mut [u8]) -> Shape {
+    let duties = match parse(file) {
+        Ok(duties) => duties,
+        Err(refusal) => return Shape { refusal, ..Shape::default() },
+    };
+    let (columns, entries) = (duties.columns(), duties.numbers.len());
+    if costs.len() < columns || lengths.len() < columns || numbers.len() < entries {
+        return Shape { refusal: 10, ..Shape::default() };
+    }
+    costs[..columns].copy_from_slice(&duties.costs);
+    lengths[..columns].copy_from_slice(&duties.lengths);
+    numbers[..entries].copy_from_slice(&duties.numbers);
+    Shape { refusal: 0, rows: duties.rows as u32, columns: columns as u32, entries: entries as u32 }
+}
+
+/// The writer's refusal by 01's sequence of tests, 0 if there is none.
+fn writing_refusal(rows: usize, costs: &[u32], lengths: &[u16], numbers: &[u8], room: usize) -> u32 {
+    let columns = costs.len();
+    if !(1..=MOST_ROWS).contains(&rows) || !(1..=MOST_COLUMNS).contains(&columns) {
+        return 2;
+    }
+    if lengths.len() != columns {
+        return 13;
+    }
+    let mut entries = 0;
+    for column in 0..columns {
+        let length = lengths[column] as usize;
+        if !(1..=MOST_COST).contains(&costs[column]) {
+            return 4;
+        }
+        if !(1..=rows).contains(&length) {
+            return 5;
+        }
+        entries += length;
+        if entries > MOST_ENTRIES {
+            return 6;
+        }
+    }
+    if numbers.len() != entries {
+        return 13;
+    }
+    if !bodies_rise(lengths, numbers, rows) {
+        return 9;
+    }
+    if room < 8 + 8 * columns + entries {
+        return 10;
+    }
+    0
+}
+
+/// The writer.
+pub fn write(rows: u16, costs: &[u32], lengths: &[u16], numbers: &[u8], out: &mut [u8]) -> Written {
+    let refusal = writing_refusal(rows as usize, costs, lengths, numbers, out.len());
+    if refusal != 0 {
+        return Written { refusal, length: 0 };
+    }
+    let columns = costs.len();
+    out[0..4].copy_from_slice(b"SPP1");
+    out[4..6].copy_from_slice(&rows.to_le_bytes());
+    out[6..8].copy_from_slice(&(columns as u16).to_le_bytes());
+    let mut start = 8 + 8 * columns;
+    out[start..start + numbers.len()].copy_from_slice(numbers);
+    for column in 0..columns {
+        let at = 8 + 8 * column;
+        out[at..at + 4].copy_from_slice(&costs[column].to_le_bytes());
+        out[at + 4..at + 6].copy_from_slice(&(start as u16).to_le_bytes());
+        out[at + 6..at + 8].copy_from_slice(&lengths[column].to_le_bytes());
+        start += lengths[column] as usize;
+    }
+    Written { refusal: 0, length: start as u32 }
+}
+
+/// The plan check.
+pub fn check(file: &[u8], offered: &[u16]) -> Checked {
+    let duties = match parse(file) {
+        Ok(duties) => duties,
+        Err(refusal) => return Checked { refusal, ..Checked::default() },
+    };
+    if !rising(offered.iter().map(|&column| column as usize), duties.columns()) {
+        return Checked { refusal: 12, ..Checked::default() };
+    }
+    let mut covered = [0u32; MOST_ROWS];
+    let mut price = 0;
+    let mut start = 0;
+    for column in 0..duties.columns() {
+        let end = start + duties.lengths[column] as usize;
+        if offered.contains(&(column as u16 + 1)) {
+            price += duties.costs[column] as u64;
+            for &row in &duties.numbers[start..end] {
+                covered[row as usize - 1] += 1;
+            }
+        }
+        start = end;
+    }
+    match covered[..duties.rows].iter().position(|&count| count != 1) {
+        Some(row) => Checked { row: row as u32 + 1, covered: covered[row], ..Checked::default() },
+        None => Checked { is_plan: 1, price, ..Checked::default() },
+    }
+}

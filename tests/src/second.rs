@@ -1,0 +1,91 @@
+//! A second solver. It tries sets of covered rows instead of branching on columns: a table gives the least price for each set that can be
+//! reached by covering the lowest open row again and again. It reads no file: it takes the columns as they were made.
+
+use std::collections::HashMap;
+
+use crate::files::Columns;
+
+/// The rows of each column as a set: bit i stands for row i + 1.
+fn row_sets(columns: &Columns) -> Vec<u64> {
+    columns.bodies.iter().map(|body| body.iter().fold(0, |set, &row| set | 1 << (row - 1))).collect()
+}
+
+fn all_rows(rows: u16) -> u64 {
+    u64::MAX >> (64 - rows)
+}
+
+/// The columns whose lowest row is each row.
+fn by_lowest_row(sets: &[u64], rows: u16) -> Vec<Vec<usize>> {
+    let mut lists = vec![Vec::new(); rows as usize];
+    for (column, set) in sets.iter().enumerate() {
+        lists[set.trailing_zeros() as usize].push(column);
+    }
+    lists
+}
+
+/// What the table comes to.
+#[derive(Clone, Copy, Debug, PartialEq)]
+pub enum Least {
+    Price(u64),
+    NoPlan,
+    /// More sets than the table may hold.
+    Unknown,
+}
+
+/// The least price of a plan, by a table of at most `most` sets of covered rows.
+pub fn least_price(columns: &Columns, most: usize) -> Least {
+    let sets = row_sets(columns);
+    let starters = by_lowest_row(&sets, columns.rows);
+    let rows = columns.rows as usize;
+    // The sets whose lowest open row is each row; the last place is for all rows covered.
+    let mut tables: Vec<HashMap<u64, u64>> = vec![HashMap::new(); rows + 1];
+    tables[0].insert(0, 0);
+    let mut size = 0;
+    for row in 0..rows {
+        let table = std::mem::take(&mut tables[row]);
+        size += table.len();
+        for (covered, price) in table {
+            for &column in &starters[row] {
+                if covered & sets[column] != 0 {
+                    continue;
+                }
+                let next = covered | sets[column];
+                let next_price = price + columns.costs[column] as u64;
+                let least = tables[next.trailing_ones() as usize].entry(next).or_insert(next_price);
+                *least = next_price.min(*least);
+            }
+        }
+        if size + tables.iter().map(HashMap::len).sum::<usize>() > most {
+            return Least::Unknown;
+        }
+    }
+    tables[rows].get(&all_rows(columns.rows)).map_or(Least::NoPlan, |&price| Least::Price(price))
+}
+
+/// Calls `each` with every plan (columns numbered from 1, not sorted), up to `most` plans.
+pub fn each_plan(columns: &Columns, most: usize, mut each: impl FnMut(&[u16])) -> usize {
+    let sets = row_sets(columns);
+    let starters = by_lowest_row(&sets, columns.rows);
+    let all = all_rows(columns.rows);
+    let mut count = 0;
+    // Partial plans still to be extended.
+    let mut open = vec![(0u64, Vec::<u16>::new())];
+    while let Some((covered, plan)) = open.pop() {
+        if covered == all {
+            each(&plan);
+            count += 1;
+            if count == most {
+                break;
+            }
+            continue;
+        }
+        for &column in &starters[covered.trailing_ones() as usize] {
+            if covered & sets[column] == 0 {
+                let mut longer = plan.clone();
+                longer.push(column as u16 + 1);
+                open.push((covered | sets[column], longer));
+            }
+        }
+    }
+    count
+}
