@@ -13,7 +13,7 @@ use Rattle.refusals.proofs.Laws.{both, asked, goes-on, passes}
 use Rattle.node.proofs.Members.{and-both}
 use Rattle.dutyfile.specs.declared.Entry.{Entry}
 use Rattle.dutyfile.specs.File.{magic, rowsIn, columnsIn, bodiesAt, entries, sizeOf, parse, sum}
-use Rattle.dutyfile.specs.Faults.{within, countsFault, columnFault, entryFault, entriesFault, headerFault, contentsFault, endFault, rowsFault, fileFault}
+use Rattle.dutyfile.specs.Faults.{within, countsFault, columnFault, columnsFault, entryFault, entriesFault, headerFault, contentsFault, endFault, rowsFault, fileFault}
 
 pub all-pass : {a b : Fault} → a ≡ fine → b ≡ fine → (a then b) ≡ fine
 all-pass {b = b} e f = goes-on b e ∙ f
@@ -80,6 +80,16 @@ entries-small m n t [] p h = omega arith
 entries-small m n t (e ∷ es) p h =
     let f = entry-fine m n t e es p in
     omega (arith, entries-small m n (t + e .size) es (f .rest) (column-fine m t (e .cost) (e .size) (f .column) .total))
+
+-- columns that pass have at most 4,096 rows in all
+pub columns-small : (m t : ℕ) (cs ls : List ℕ) → length ls ≡ length cs → t ≤ 4096 → columnsFault m t cs ls ≡ fine → t + sum ls ≤ 4096
+unfolding sum columnsFault
+columns-small m t [] [] e h p = omega arith
+columns-small m t [] (l ∷ ls) e h p = absurd (omega arith)
+columns-small m t (c ∷ cs) [] e h p = absurd (omega arith)
+columns-small m t (c ∷ cs) (l ∷ ls) e h p =
+    let b = both _ _ p in
+    omega (arith, columns-small m (t + l) cs ls (omega arith) (column-fine m t c l (b .0) .total) (b .1))
 
 -- the header
 pub record Header (s : List ℕ) : Type 0 where

@@ -5,7 +5,7 @@ ghost use mathlib.Core.Path.{_≡_};
 ghost use Prim.Native.Nat.{_+_, _*_, _≤_};
 ghost use lib.ListN.{length, drop};
 ghost use Rattle.refusals.specs.Refusals.{faultOf};
-ghost use Rattle.dutyfile.specs.File.{entryOf, bodiesAt};
+ghost use Rattle.dutyfile.specs.File.{rowsIn, columnsIn, entryOf, bodiesAt};
 ghost use Rattle.dutyfile.specs.Faults.{columnFault, countsFault, entryFault, rising};
 
 // A contents entry.
@@ -30,6 +30,22 @@ pub enum Contents {
     // The number of row numbers in all bodies, 01's t.
     Rows(usize),
     Failed(Refusal),
+}
+
+// The number of rows, 01's m.
+pub fn row_count(file: &[u8]) -> usize
+    requires { ⌜ 8 ≤ length (now file) ⌝ }
+    ensures { λ r. ⌜ r ≡ rowsIn (now (file .entry)) ⌝ }
+{
+    endian::get16(file, 4) as usize
+}
+
+// The number of columns, 01's n.
+pub fn column_count(file: &[u8]) -> usize
+    requires { ⌜ 8 ≤ length (now file) ⌝ }
+    ensures { λ r. ⌜ r ≡ columnsIn (now (file .entry)) ⌝ }
+{
+    endian::get16(file, 6) as usize
 }
 
 // Entry j of a file.

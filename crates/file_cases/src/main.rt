@@ -1,6 +1,6 @@
 // Reads duty files from standard input, each on a line as a name and its bytes in hexadecimal, writes back the lists of an accepted
 // one, and prints what this comes to; then tries lists of other lengths, and offered plans.
-use reader::ReadAnswer;
+use examine::ReadAnswer;
 use refusals::Refusal;
 use verify::CheckAnswer;
 use writer::WriteAnswer;

@@ -16,9 +16,9 @@ use Rattle.dutyfile.specs.File.{columnsIn, entries, costOf, sizeOf, parse, sum,
 use Rattle.dutyfile.specs.Faults.{fileFault, roomsFault, reading, contentsFault}
 use Rattle.dutyfile.proofs.Entries.{length-entries}
 use Rattle.dutyfile.proofs.Facts.{Accepted, file-fine, all-pass, contents-small, length-numbers}
-use Rattle.reader.specs.declared.ReadAnswer.{ReadAnswer}
-use Rattle.reader.specs.declared.ReadAnswer.the-variants.{Accepted as accept, Refused as refuse}
-use Rattle.reader.specs.Answer.{readOutcome}
+use Rattle.examine.specs.declared.ReadAnswer.{ReadAnswer}
+use Rattle.examine.specs.declared.ReadAnswer.the-variants.{Accepted as accept, Refused as refuse}
+use Rattle.examine.specs.Answer.{readOutcome}
 use Rattle.matrix.specs.Stated.{Stated}
 use Rattle.matrix.proofs.Root.{zeros-after}
 use Rattle.matrix.proofs.Accepted.{file-stated}

@@ -1,11 +1,11 @@
 // A file read into lists of the caller's own, which have room for any accepted file.
-use reader::ReadAnswer;
+use examine::ReadAnswer;
 ghost use mathlib.Core.Path.{_≡_};
 ghost use lib.ListN.{replicate};
 ghost use Rattle.refusals.specs.Refusals.{fault, numberOf};
 ghost use Rattle.dutyfile.specs.declared.Shape.{Shape};
 ghost use Rattle.dutyfile.specs.Faults.{fileFault};
-ghost use Rattle.reader.specs.declared.ReadAnswer.the-variants.{Accepted, Refused};
+ghost use Rattle.examine.specs.declared.ReadAnswer.the-variants.{Accepted, Refused};
 ghost use Rattle.refusals.specs.declared.Refusal.{Refusal};
 ghost use Rattle.lists.specs.Listed.{Places, Listed};
 

@@ -1,6 +1,2 @@
-mod Header
-mod Entries
-mod Bodies
-mod Examined
 mod Filled
 mod Rooms

@@ -10,9 +10,9 @@ use Rattle.refusals.proofs.Laws.{both, asked, stops-at, goes-on, unless-fine, u
 use Rattle.dutyfile.specs.declared.Shape.{Shape}
 use Rattle.dutyfile.specs.File.{columnsIn, parse, shape}
 use Rattle.dutyfile.specs.Faults.{headerFault, fileFault, roomsFault, reading}
-use Rattle.reader.specs.declared.ReadAnswer.{ReadAnswer}
-use Rattle.reader.specs.declared.ReadAnswer.the-variants.{Refused}
-use Rattle.reader.specs.Answer.{readOutcome}
+use Rattle.examine.specs.declared.ReadAnswer.{ReadAnswer}
+use Rattle.examine.specs.declared.ReadAnswer.the-variants.{Refused}
+use Rattle.examine.specs.Answer.{readOutcome}
 use Rattle.dutyfile.proofs.Facts.{length-numbers, file-fine}
 
 pub refused-is : (r : ReadAnswer) (w : Refusal) → r ≡ Refused w → readOutcome r ≡ refused (numberOf w)

@@ -1,8 +1,8 @@
 // The reducing call on a file.
 use dutyfile::Shape;
+use examine::ReadAnswer;
 use lowering::Reduction;
 use lowering::reduce_node;
-use reader::ReadAnswer;
 use refusals::Check;
 use refusals::Refusal;
 ghost use mathlib.Core.Path.{_≡_};

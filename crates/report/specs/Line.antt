@@ -4,7 +4,7 @@ use mathlib.Core.List.{List, [], _∷_, _++_}
 use Prim.Native.Nat.{ℕ, zero, suc, _+_, _/_, _%_}
 use lib.Dec.{ltb}
 use Rattle.refusals.specs.Refusals.{Outcome, accepted, refused}
-use Rattle.search.specs.Answer.{Values, is-best, is-none, is-stopped, no-plan, priced}
+use Rattle.answer.specs.Answer.{Values, is-best, is-none, is-stopped, no-plan, priced}
 
 -- the ASCII code of a digit
 abbrev pub digit : ℕ → ℕ

@@ -1,13 +1,14 @@
 // The line that the program prints for a duty file.
-use search::Found;
-use search::Halted;
-use search::SearchAnswer;
+use answer::Found;
+use answer::Halted;
+use answer::SearchAnswer;
 ghost use mathlib.Core.Path.{_≡_};
 ghost use mathlib.Core.List.{[], _∷_};
 ghost use Prim.Native.Nat.{_+_, _≤_};
 ghost use lib.ListN.{length};
 ghost use Rattle.refusals.specs.Refusals.{front, filled};
-ghost use Rattle.search.specs.Answer.{searchOutcome, searching, planList};
+ghost use Rattle.answer.specs.Answer.{searchOutcome};
+ghost use Rattle.search.specs.Searching.{searching, planList};
 ghost use Rattle.report.specs.Line.{field, fields, wordsOf, lineOf};
 ghost use Rattle.report.specs.Put.{Put};
 

@@ -29,11 +29,12 @@ use Rattle.visit.specs.Tally.{takenIn}
 use Rattle.solver.specs.declared.Solved.{Solved}
 use Rattle.solver.specs.Solved.{Searchable, Ends, solvedAnswer}
 use Rattle.solver.proofs.Ends.{solved-answer}
-use Rattle.search.specs.declared.SearchAnswer.{SearchAnswer}
-use Rattle.search.specs.declared.SearchAnswer.the-variants.{Refused}
-use Rattle.search.specs.Answer.{searchOutcome, valuesOf, callFault, fileAnswer, searching, planNumbers, planList, seen}
-use Rattle.search.specs.Plan.{PlanFits}
-use Rattle.search.proofs.Given.{kept-shown}
+use Rattle.answer.specs.declared.SearchAnswer.{SearchAnswer}
+use Rattle.answer.specs.declared.SearchAnswer.the-variants.{Refused}
+use Rattle.answer.specs.Answer.{searchOutcome, valuesOf, planNumbers, seen}
+use Rattle.answer.specs.Plan.{PlanFits}
+use Rattle.answer.proofs.Given.{kept-shown}
+use Rattle.search.specs.Searching.{callFault, fileAnswer, searching, planList}
 
 -- each column covers a row
 some-row : (p : Instance) → Small p → (j : ℕ) → j < width p → (i : ℕ) × (i < p .rows) × (covers p i j ≡ true)

@@ -1,3 +1,1 @@
-mod Putting
-mod Given
 mod Called

@@ -25,8 +25,9 @@ use Rattle.verify.proofs.Meaning.{verdict-not-once}
 use Rattle.matrix.proofs.Accepted.{file-small}
 use Rattle.reduce.specs.declared.Bound.{Bound}
 use Rattle.reduce.specs.Answer.{reducing, boundOf, reducedRoot}
-use Rattle.search.specs.Answer.{shownOf, valuesOf, fileAnswer, searching}
-use Rattle.spp.specs.Fits.{ShapeFits, LengthFits, RowFits, UsedFits, columnsIn, ColumnsFit}
+use Rattle.answer.specs.Answer.{shownOf, valuesOf}
+use Rattle.search.specs.Searching.{fileAnswer, searching}
+use Rattle.flat.specs.Fits.{ShapeFits, LengthFits, RowFits, UsedFits, columnsIn, ColumnsFit}
 
 shape-low : (s : List ℕ) → Accepted s → (shape s .rows ≤ 64) × (shape s .columns ≤ 256) × (shape s .entries ≤ 4096)
 unfolding shape contentsFault

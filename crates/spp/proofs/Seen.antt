@@ -7,11 +7,11 @@ use Rattle.refusals.specs.Refusals.{accepted, numberOf}
 use Rattle.refusals.specs.declared.Refusal.{Refusal}
 use Rattle.refusals.specs.declared.Refusal.the-variants.{Magic, Counts, Contents, Cost, Length, Total, Start, End, Row, Room, NodeLimit, Offered, Lists}
 use Rattle.rules.specs.Search.{Answer}
-use Rattle.search.specs.declared.SearchAnswer.{SearchAnswer}
-use Rattle.search.specs.declared.SearchAnswer.the-variants.{Best, None, Stopped, StoppedWith, Refused}
-use Rattle.search.specs.Answer.{searchOutcome, seen}
-use Rattle.spp.specs.declared.SppAnswer.{SppAnswer}
-use Rattle.spp.specs.Flat.{answerOf, seenIn}
+use Rattle.answer.specs.declared.SearchAnswer.{SearchAnswer}
+use Rattle.answer.specs.declared.SearchAnswer.the-variants.{Best, None, Stopped, StoppedWith, Refused}
+use Rattle.answer.specs.Answer.{searchOutcome, seen}
+use Rattle.flat.specs.declared.SppAnswer.{SppAnswer}
+use Rattle.flat.specs.Flat.{answerOf, seenIn}
 
 numbered : (w : Refusal) → 0 < numberOf w
 numbered Magic = omega arith

@@ -1,5 +1,5 @@
 // The plan check: how often each row is covered is counted column by column, and the lowest row that is off is told.
-use reader::ReadAnswer;
+use examine::ReadAnswer;
 use refusals::Refusal;
 ghost use mathlib.Core.Path.{_≡_};
 ghost use mathlib.Core.Bool.{true};
@@ -115,7 +115,7 @@ fn judge(covered: &[u32; 64], rows: usize, cost: u32) -> CheckAnswer
 pub fn check_plan(file: &[u8], columns: &[u16]) -> CheckAnswer
     ensures { λ r. ⌜ checkOutcome r ≡ checking (now (file .entry)) (now (columns .entry)) ⌝ }
 {
-    let found = reader::examine(file);
+    let found = examine::examine(file);
     match found {
         ReadAnswer::Refused(why) => CheckAnswer::Refused(why),
         ReadAnswer::Accepted(shape) => {

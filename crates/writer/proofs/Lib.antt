@@ -1,4 +1,3 @@
 mod Columns
 mod Bodies
-mod Puts
 mod Tested

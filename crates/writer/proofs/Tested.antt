@@ -16,21 +16,10 @@ use Rattle.dutyfile.proofs.Round.{Passing, length-render, length-contents}
 use Rattle.writer.specs.declared.WriteAnswer.{WriteAnswer}
 use Rattle.writer.specs.declared.WriteAnswer.the-variants.{Refused}
 use Rattle.writer.specs.Answer.{writeOutcome}
-use Rattle.writer.proofs.Puts.{three-runs}
 
 pub refused-is : (r : WriteAnswer) (w : Refusal) → r ≡ Refused w → writeOutcome r ≡ refused (numberOf w)
 unfolding writeOutcome
 refused-is r w e = rw e
-
--- columns that pass have at most 4,096 rows in all
-pub columns-small : (m t : ℕ) (cs ls : List ℕ) → length ls ≡ length cs → t ≤ 4096 → columnsFault m t cs ls ≡ fine → t + sum ls ≤ 4096
-unfolding sum columnsFault
-columns-small m t [] [] e h p = omega arith
-columns-small m t [] (l ∷ ls) e h p = absurd (omega arith)
-columns-small m t (c ∷ cs) [] e h p = absurd (omega arith)
-columns-small m t (c ∷ cs) (l ∷ ls) e h p =
-    let b = both _ _ p in
-    omega (arith, columns-small m (t + l) cs ls (omega arith) (column-fine m t c l (b .0) .total) (b .1))
 
 -- the row numbers
 module _ (m : ℕ) (ls ns : List ℕ) (size : ℕ) where
@@ -104,21 +93,3 @@ module _ (d : Lists) (k : ℕ) where
     pub writing-done : size ≤ k → accepted size ≡ writing d k
     unfolding writing
     writing-done h = rw writing-size (unless-fine _ (goes-on _ writing-fine ∙ passes 10 (le-leb _ _ (rw writing-size at h))))
-
--- the file from its three parts
-module _ (d : Lists) (p : Passing d) where
-  pub file-room : length (render d) ≡ bodiesAt (length (d .costs)) + length (d .numbers)
-  file-room = length-render d (p .same)
-
-  pub file-small : sum (d .lengths) ≤ 4096
-  file-small = omega (arith, columns-small (d .rows) 0 (d .costs) (d .lengths) (p .same) (omega arith) (p .columns))
-
-  pub file-written : (out x y z : List ℕ) → length (render d) ≤ length out →
-      x ≡ sets out 0 (header (d .rows) (length (d .costs))) → y ≡ sets x 8 (contents (bodiesAt (length (d .costs))) (d .costs) (d .lengths)) →
-      z ≡ sets y (bodiesAt (length (d .costs))) (d .numbers) → z ≡ front (render d) out
-  unfolding render header
-  file-written out x y z h e f g =
-      let n : ℕ = length (d .costs) in
-      let q : bodiesAt n ≡ 8 + length (contents (bodiesAt n) (d .costs) (d .lengths)) = omega (arith, length-contents (bodiesAt n) (d .costs) (d .lengths) (p .same)) in
-      three-runs 0 8 (bodiesAt n) (header (d .rows) n) (contents (bodiesAt n) (d .costs) (d .lengths)) (d .numbers) out x y z e f g refl q
-      ∙ front-sets (render d) out h

@@ -3,11 +3,10 @@ use dutyfile::Contents;
 use refusals::Check;
 use refusals::Refusal;
 ghost use mathlib.Core.Path.{_≡_};
-ghost use Prim.Native.Nat.{_+_, _*_, _≤_, _<_};
+ghost use Prim.Native.Nat.{_+_, _≤_};
 ghost use lib.ListN.{length};
-ghost use lib.Seq.{sets};
-ghost use Rattle.refusals.specs.Refusals.{fine, faultOf, unless, front, filled};
-ghost use Rattle.dutyfile.specs.File.{bodiesAt, lists, header, entryBytes, contents, render, sum, bodies};
+ghost use Rattle.refusals.specs.Refusals.{faultOf, unless, filled};
+ghost use Rattle.dutyfile.specs.File.{bodiesAt, lists, render, sum, bodies};
 ghost use Rattle.dutyfile.specs.Faults.{columnsFault, bodiesFault, numbersFault, listsFault, writing};
 ghost use Rattle.dutyfile.specs.Answer.{contentsOutcome};
 ghost use Rattle.writer.specs.Answer.{writeOutcome};
@@ -55,43 +54,6 @@ fn check_bodies(rows: usize, lengths: &[u16], numbers: &[u8]) -> Check
     Check::Passed
 }
 
-// Entry j of the contents.
-fn put_entry(out: &mut [u8], j: usize, cost: u32, start: u16, size: u16)
-    requires { ⌜ (j < 256) × (16 + 8 * j ≤ length (now out)) ⌝ }
-    ensures { λ _. ⌜ now (out .exit) ≡ sets (now (out .entry)) (bodiesAt j) (entryBytes cost start size) ⌝ }
-{
-    let at = 8 + 8 * j;
-    endian::put32(out, at, cost);
-    endian::put16(out, at + 4, start);
-    endian::put16(out, at + 6, size);
-}
-
-// The contents, with the first body after them.
-fn put_contents(out: &mut [u8], costs: &[u32], lengths: &[u16])
-    requires { ⌜ (length (now costs) ≤ 256) × (length (now lengths) ≡ length (now costs)) ⌝ }
-    requires { ⌜ sum (now lengths) ≤ 4096 ⌝ }
-    requires { ⌜ bodiesAt (length (now costs)) ≤ length (now out) ⌝ }
-    ensures { λ _. ⌜ now (out .exit) ≡ sets (now (out .entry)) 8 (contents (bodiesAt (length (now (costs .entry)))) (now (costs .entry)) (now (lengths .entry))) ⌝ }
-{
-    let mut start = 8 + 8 * costs.len();
-    let mut k = 0;
-    while k < costs.len() {
-        put_entry(out, k, costs[k], start as u16, lengths[k]);
-        start += lengths[k] as usize;
-        k += 1;
-    }
-}
-
-// The first 8 bytes.
-fn put_header(out: &mut [u8], rows: u16, columns: u16)
-    requires { ⌜ 8 ≤ length (now out) ⌝ }
-    ensures { λ _. ⌜ now (out .exit) ≡ sets (now (out .entry)) 0 (header rows columns) ⌝ }
-{
-    endian::put(out, 0, b"SPP1");
-    endian::put16(out, 4, rows);
-    endian::put16(out, 6, columns);
-}
-
 // Test 13 for the row numbers against t, then 9: the file's length, or the first refusal.
 fn check_numbers(
     rows: usize,
@@ -132,18 +94,6 @@ fn check_lists(rows: u16, costs: &[u32], lengths: &[u16], numbers: &[u8]) -> Wri
     }
 }
 
-// The whole file, at the front of the buffer.
-fn put_file(rows: u16, costs: &[u32], lengths: &[u16], numbers: &[u8], out: &mut [u8])
-    requires { ⌜ listsFault (lists rows (now costs) (now lengths) (now numbers)) ≡ fine ⌝ }
-    requires { ⌜ length (render (lists rows (now costs) (now lengths) (now numbers))) ≤ length (now out) ⌝ }
-    ensures { λ _. ⌜ now (out .exit) ≡ front (render (lists rows (now (costs .entry)) (now (lengths .entry)) (now (numbers .entry)))) (now (out .entry)) ⌝ }
-{
-    let columns = costs.len();
-    put_header(out, rows, columns as u16);
-    put_contents(out, costs, lengths);
-    endian::put(out, 8 + 8 * columns, numbers);
-}
-
 // Writes a duty file: its length, with the file at the front of the buffer; or a refusal, with the buffer as it was.
 pub fn write(
     rows: u16,
@@ -162,7 +112,7 @@ pub fn write(
             if out.len() < size {
                 return WriteAnswer::Refused(Refusal::Room);
             }
-            put_file(rows, costs, lengths, numbers, out);
+            render::put_file(rows, costs, lengths, numbers, out);
             tested
         }
     }

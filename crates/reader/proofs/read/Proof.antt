@@ -5,7 +5,7 @@ use Rattle.refusals.specs.Refusals.{accepted, unless, filled}
 use Rattle.refusals.proofs.Laws.{failed, passed, keeps}
 use Rattle.dutyfile.specs.File.{shape}
 use Rattle.dutyfile.specs.Faults.{fileFault}
-use Rattle.reader.specs.Answer.{readOutcome}
+use Rattle.examine.specs.Answer.{readOutcome}
 use Rattle.reader.proofs.Rooms.{refused-is, reading-refused, reading-short, reading-done, Roomy, roomy}
 use borrow.Author.Needs.{needs}
 use Rattle.reader.proofs.read.Statement.{statement}

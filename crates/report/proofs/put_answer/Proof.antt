@@ -2,7 +2,7 @@
 use mathlib.Core.Path.{sym}
 use mathlib.Core.List.{_++_}
 use native.Mathlib.Omega.{arith}
-use Rattle.search.specs.Answer.{searchOutcome}
+use Rattle.answer.specs.Answer.{searchOutcome}
 use Rattle.report.specs.Line.{fields, best, none, stopped, refusal, dash, wordsOf}
 use Rattle.report.proofs.Puts.{put-then, put-run, put-last}
 use borrow.Author.Needs.{needs}

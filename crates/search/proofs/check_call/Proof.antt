@@ -1,7 +1,7 @@
 -- Each way out of the tests is one way out of the definition.
 use borrow.Author.Tests.{le-leb, lt-leb}
 use Rattle.refusals.specs.Refusals.{faultOf, ask, _then_}
-use Rattle.search.specs.Answer.{callFault}
+use Rattle.search.specs.Searching.{callFault}
 use Rattle.search.proofs.check_call.Statement.{statement}
 use Rattle.search.proofs.check_call.Tie as tie
 

@@ -5,7 +5,7 @@ use Rattle.refusals.specs.Refusals.{filled}
 use Rattle.refusals.proofs.Laws.{failed, passed}
 use Rattle.lists.specs.Listed.{Listed}
 use Rattle.lists.proofs.Read.{listed-parts}
-use Rattle.search.specs.Answer.{searchOutcome}
+use Rattle.answer.specs.Answer.{searchOutcome}
 use Rattle.search.proofs.Called.{refused-demand, refused-file, refused-call, searchable, plan-fits, given-answer, given-plan, given-demand}
 use borrow.Author.Needs.{needs}
 use Rattle.search.proofs.search.Statement.{statement}

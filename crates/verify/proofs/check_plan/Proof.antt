@@ -9,7 +9,7 @@ use Rattle.dutyfile.specs.File.{shape, rowsIn, columnsIn}
 use Rattle.dutyfile.specs.declared.Shape.{Shape}
 use Rattle.dutyfile.specs.Faults.{rising, fileFault}
 use Rattle.dutyfile.proofs.Facts.{file-fine}
-use Rattle.reader.specs.Answer.{readOutcome}
+use Rattle.examine.specs.Answer.{readOutcome}
 use Rattle.verify.specs.Verdict.{checkOutcome}
 use Rattle.verify.proofs.Walk.{offered}
 use Rattle.verify.proofs.Verdicts.{verdict-is, checking-refused, checking-not-rising, checking-done}

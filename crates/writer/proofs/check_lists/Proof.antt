@@ -9,9 +9,9 @@ use Rattle.dutyfile.specs.Faults.{countsFault, columnsFault}
 use Rattle.dutyfile.specs.declared.Contents.the-variants.{Rows}
 use Rattle.refusals.proofs.Laws.{failed, passed, accepts, refuses}
 use Rattle.dutyfile.specs.Answer.{contentsOutcome}
-use Rattle.dutyfile.proofs.Facts.{counts-fine}
+use Rattle.dutyfile.proofs.Facts.{counts-fine, columns-small}
 use Rattle.writer.specs.Answer.{writeOutcome}
-use Rattle.writer.proofs.Tested.{counts-fail, lengths-differ, columns-fail, columns-pass, columns-small}
+use Rattle.writer.proofs.Tested.{counts-fail, lengths-differ, columns-fail, columns-pass}
 use borrow.Author.Needs.{needs}
 use Rattle.writer.proofs.check_lists.Statement.{statement}
 use Rattle.writer.proofs.check_lists.Tie as tie

@@ -1,0 +1,4 @@
+mod Header
+mod Entries
+mod Bodies
+mod Examined
