@@ -1,11 +1,12 @@
-// Row statistics, the comparison of two candidates by 01's five criteria, and the best candidate of a node.
+// Row statistics, and the best candidate of a node.
+use criteria::comes_before;
 use node::row_part;
 use rules::Candidate;
 ghost use mathlib.Core.Path.{_≡_};
 ghost use Prim.Native.Nat.{_≤_, _<_};
 ghost use mathlib.Core.List.{[]};
 ghost use Rattle.node.specs.Instance.{Instance};
-ghost use Rattle.rules.specs.Reduce.{candidate, precedes};
+ghost use Rattle.rules.specs.Reduce.{candidate};
 ghost use Rattle.node.specs.Stored.{ByRow};
 ghost use Rattle.candidates.specs.Row.{view, joined, tallyIn, Listed, SomeRow};
 ghost use Rattle.candidates.specs.Best.{better, bestOf, hasZero, SomeRows};
@@ -104,25 +105,6 @@ pub fn row_candidate(
 {
     let row = row_part(heads, entries, i);
     statistics(cost, column, starts, row, i as u32)
-}
-
-// Whether candidate a comes before candidate b, by 01's criteria 1 to 5 in turn.
-pub fn comes_before(a: Candidate, b: Candidate) -> bool
-    ensures { λ r. ⌜ r ≡ precedes a b ⌝ }
-{
-    if a.free != b.free {
-        return a.free < b.free;
-    }
-    if a.ties != b.ties {
-        return a.ties < b.ties;
-    }
-    if a.cost != b.cost {
-        return b.cost < a.cost;
-    }
-    if a.short != b.short {
-        return a.short < b.short;
-    }
-    a.row < b.row
 }
 
 // The better of the best so far and one more row: a row with cost 0 is no candidate.

@@ -7,7 +7,7 @@ use lib.Dec.{eqb, ltb}
 use borrow.Author.Tests.{eq-eqb, ne-eqb, le-ltb}
 use Rattle.rules.specs.Reduce.{byOrder}
 use Rattle.rules.specs.Tree.{aboveP, sameP}
-use Rattle.candidates.proofs.Criteria.{decides, ties-up}
+use Rattle.criteria.proofs.Criteria.{decides, ties-up}
 use Rattle.choice.specs.declared.BranchRow.{BranchRow}
 use Rattle.choice.specs.Row.{penaltyAt, precedes}
 

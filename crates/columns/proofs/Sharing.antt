@@ -15,7 +15,7 @@ use Rattle.node.specs.Lists.{keep, member, upto}
 use Rattle.node.specs.Instance.{Instance, width, columns, body, covers, meets}
 use Rattle.node.specs.Node.{isFree, costAt, freeColumns}
 use Rattle.rules.specs.Tree.{sum, sharing}
-use Rattle.node.proofs.Members.{so, same-bool, here, there, member-cases, kept, member-keep, member-upto, upto-lt, keep-cong, keep-upto}
+use Rattle.node.proofs.Members.{same-bool, here, there, member-cases, kept, member-keep, member-upto, upto-lt, keep-cong, keep-upto}
 use Rattle.node.proofs.Shares.{meets-at, meets-of}
 use Rattle.node.specs.Stored.{Small, ByRow, InRows, SomeBody, IsRow}
 use Rattle.node.proofs.Loops.{take-step}

@@ -4,7 +4,7 @@ use dutyfile::Shape;
 use refusals::Check;
 use refusals::Refusal;
 ghost use mathlib.Core.Path.{_≡_};
-ghost use Prim.Native.Nat.{_+_, _*_, _≤_};
+ghost use Prim.Native.Nat.{_+_, _*_};
 ghost use Rattle.refusals.specs.Refusals.{fine, faultOf, unless};
 ghost use Rattle.dutyfile.specs.File.{parse, shape, sum};
 ghost use Rattle.dutyfile.specs.Faults.{headerFault, contentsFault, endFault, rowsFault, fileFault};

@@ -9,7 +9,7 @@ use lib.ListN.{length, set, take, length-set, length-append}
 use lib.Seq.{take-suc-set}
 use Rattle.node.specs.declared.Node.{Node}
 use Rattle.rules.specs.declared.Candidate.{Candidate}
-use Rattle.node.specs.Lists.{pick, on}
+use Rattle.node.specs.Lists.{pick}
 use Rattle.node.specs.Passes.{bestIn}
 use Rattle.node.specs.Instance.{Instance, FitsNode}
 use Rattle.node.specs.Node.{costAt, freeColumns, freeOf, openRows}

@@ -12,9 +12,9 @@ use lib.Dec.{eqb}
 use borrow.Author.Tests.{eqb-true, eqb-false, eq-eqb, ne-eqb}
 use Rattle.node.proofs.Loops.{table-ext}
 use Rattle.node.specs.declared.Node.{Node}
-use Rattle.node.specs.Lists.{member, keep, from, upto, on, table}
+use Rattle.node.specs.Lists.{member, keep, from, upto, on}
 use Rattle.node.specs.Passes.{carry}
-use Rattle.node.specs.Instance.{Instance, width, columns, covers}
+use Rattle.node.specs.Instance.{Instance, width, covers}
 use Rattle.node.proofs.Members.{kept, member-at, member-cases, length-from}
 use Rattle.node.proofs.Passes.{Carrying, carrying-start, carrying-next, carrying-end}
 use Rattle.candidates.specs.Row.{view}

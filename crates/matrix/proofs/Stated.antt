@@ -8,7 +8,7 @@ use lib.ListN.{length, getD, take, drop, length-take, length-drop}
 use lib.Seq.{take-all}
 use Rattle.node.specs.declared.Node.{Node}
 use Rattle.node.specs.Lists.{table}
-use Rattle.node.specs.Instance.{Instance, width, body, span}
+use Rattle.node.specs.Instance.{Instance, width, span}
 use Rattle.node.specs.Node.{root}
 use Rattle.node.specs.Stored.{ByColumn}
 use Rattle.rules.proofs.Sums.{total-cong}

@@ -5,7 +5,7 @@ use Prim.Native.Nat.{ℕ, _≤_}
 use native.Mathlib.Omega.{arith}
 use lib.ListN.{take}
 use borrow.Author.Tests.{leb-true}
-use Rattle.refusals.specs.Refusals.{fine, fault, _then_, accepted, refused, front, filled}
+use Rattle.refusals.specs.Refusals.{fine, fault, accepted, refused, front, filled}
 use Rattle.refusals.proofs.Laws.{both, asked, stops-at, goes-on, unless-fine, unless-fault}
 use Rattle.node.specs.Instance.{Instance}
 use Rattle.node.specs.Node.{root}

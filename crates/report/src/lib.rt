@@ -1,93 +1,10 @@
-// The line that the program prints for a duty file.
-use answer::Found;
-use answer::Halted;
-use answer::SearchAnswer;
+// The search of a duty file, and the line that the program prints for it.
 ghost use mathlib.Core.Path.{_≡_};
-ghost use mathlib.Core.List.{[], _∷_};
-ghost use Prim.Native.Nat.{_+_, _≤_};
+ghost use Prim.Native.Nat.{_≤_};
 ghost use lib.ListN.{length};
 ghost use Rattle.refusals.specs.Refusals.{front, filled};
-ghost use Rattle.answer.specs.Answer.{searchOutcome};
+ghost use Rattle.line.specs.Line.{lineOf};
 ghost use Rattle.search.specs.Searching.{searching, planList};
-ghost use Rattle.report.specs.Line.{field, fields, wordsOf, lineOf};
-ghost use Rattle.report.specs.Put.{Put};
-
-// A space and a number, from a place on. Gives the place after them.
-fn put_number(out: &mut [u8], at: usize, n: u64) -> usize
-    requires { ⌜ at + 21 ≤ length (now out) ⌝ }
-    ensures { λ r. ⌜ r ≤ at + 21 ⌝ }
-    ensures { λ r. ⌜ Put (now (out .entry)) (now (out .exit)) at r (field n) ⌝ }
-{
-    let mut digits = [0u8; 20];
-    let k = io::decimal(n, &mut digits);
-    endian::put(out, at, b" ");
-    endian::put(out, at + 1, &digits[..k]);
-    at + 1 + k
-}
-
-// Price, root floor, nodes and duties.
-fn put_found(out: &mut [u8], at: usize, found: Found) -> usize
-    requires { ⌜ at + 84 ≤ length (now out) ⌝ }
-    ensures { λ r. ⌜ r ≤ at + 84 ⌝ }
-    ensures { λ r. ⌜ Put (now (out .entry)) (now (out .exit)) at r (fields (found .cost ∷ found .bound ∷ found .nodes ∷ found .columns ∷ [])) ⌝ }
-{
-    let floor = put_number(out, at, found.cost as u64);
-    let nodes = put_number(out, floor, found.bound as u64);
-    let duties = put_number(out, nodes, found.nodes as u64);
-    put_number(out, duties, found.columns as u64)
-}
-
-// Root floor and nodes, and no duties.
-fn put_halted(out: &mut [u8], at: usize, halted: Halted) -> usize
-    requires { ⌜ at + 63 ≤ length (now out) ⌝ }
-    ensures { λ r. ⌜ r ≤ at + 63 ⌝ }
-    ensures { λ r. ⌜ Put (now (out .entry)) (now (out .exit)) at r (fields (halted .bound ∷ halted .nodes ∷ 0 ∷ [])) ⌝ }
-{
-    let nodes = put_number(out, at, halted.bound as u64);
-    let duties = put_number(out, nodes, halted.nodes as u64);
-    put_number(out, duties, 0)
-}
-
-// The answer's word and numbers, at the front.
-fn put_answer(out: &mut [u8], answer: SearchAnswer) -> usize
-    requires { ⌜ 128 ≤ length (now out) ⌝ }
-    ensures { λ r. ⌜ r ≤ 127 ⌝ }
-    ensures { λ r. ⌜ Put (now (out .entry)) (now (out .exit)) 0 r (wordsOf (searchOutcome answer)) ⌝ }
-{
-    match answer {
-        SearchAnswer::Best(found) => {
-            endian::put(out, 0, b"best");
-            put_found(out, 4, found)
-        }
-        SearchAnswer::None(nodes) => {
-            endian::put(out, 0, b"none");
-            put_number(out, 4, nodes as u64)
-        }
-        SearchAnswer::Stopped(halted) => {
-            endian::put(out, 0, b"stopped -");
-            put_halted(out, 9, halted)
-        }
-        SearchAnswer::StoppedWith(found) => {
-            endian::put(out, 0, b"stopped");
-            put_found(out, 7, found)
-        }
-        SearchAnswer::Refused(why) => {
-            endian::put(out, 0, b"refused");
-            put_number(out, 7, refusals::number(why) as u64)
-        }
-    }
-}
-
-// The answer's line, at the front. Gives its length.
-fn put_line(out: &mut [u8], answer: SearchAnswer) -> usize
-    requires { ⌜ 128 ≤ length (now out) ⌝ }
-    ensures { λ r. ⌜ r ≤ 128 ⌝ }
-    ensures { λ r. ⌜ Put (now (out .entry)) (now (out .exit)) 0 r (lineOf (searchOutcome answer)) ⌝ }
-{
-    let end = put_answer(out, answer);
-    endian::put(out, end, b"\n");
-    end + 1
-}
 
 // Searches a file within a node limit: the plan at the front of one list, the answer's line at the front of another. Gives the line's
 // length.
@@ -99,7 +16,7 @@ fn search_line(file: &[u8], limit: u32, plan: &mut [u16], out: &mut [u8]) -> usi
     ensures { λ _. ⌜ now (plan .exit) ≡ filled (searching (now (file .entry)) limit (length (now (plan .entry)))) (planList (now (file .entry)) limit) (now (plan .entry)) ⌝ }
 {
     let answer = search::search(file, limit, plan);
-    put_line(out, answer)
+    line::put_line(out, answer)
 }
 
 // Prints the line of a file's search within a node limit. The plan is at the front of the list.

@@ -1,7 +1,7 @@
 -- What a node stands for, whatever the objective: its completions. Each open row is covered by just one of a completion's free columns,
 -- since a sound node's taken columns cover the closed rows once and the open ones not at all.
 use mathlib.Core.Path.{_≡_, refl, sym, ap, _∙_}
-use mathlib.Core.Bool.{Bool, true, false, not, _&&_, true≢false}
+use mathlib.Core.Bool.{Bool, true, false, _&&_, true≢false}
 use mathlib.Core.List.{List}
 use Prim.Native.Nat.{ℕ, _+_, _*_, _≤_, _<_}
 use native.Mathlib.Omega.{arith}

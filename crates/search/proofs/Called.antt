@@ -7,7 +7,7 @@ use Prim.Native.Nat.{ℕ, suc, _-_, _≤_, _<_}
 use native.Mathlib.Omega.{arith}
 use lib.ListN.{getD, take}
 use borrow.Author.Tests.{leb-true}
-use Rattle.refusals.specs.Refusals.{fine, fault, _then_, accepted, refused, front, filled}
+use Rattle.refusals.specs.Refusals.{fine, fault, accepted, refused, front, filled}
 use Rattle.refusals.specs.declared.Refusal.{Refusal}
 use Rattle.refusals.proofs.Laws.{both, asked, stops-at, goes-on, unless-fine, unless-fault, fills}
 use Rattle.node.specs.Lists.{member}
@@ -15,7 +15,7 @@ use Rattle.node.specs.Instance.{Instance, width, body, covers, price, IsPlan, S
 use Rattle.node.specs.Stored.{Small}
 use Rattle.node.proofs.Members.{member-at}
 use Rattle.rules.specs.Search.{Answer, plan, shownBy}
-use Rattle.rules.specs.Tree.{sum, answer}
+use Rattle.rules.specs.Tree.{sum}
 use Rattle.rules.specs.Demand.{Demand3}
 use Rattle.rules.proofs.Plans.{plan-short}
 use Rattle.rules.proofs.Sum.{sum-demand-3}

@@ -4,7 +4,6 @@ use mathlib.Core.List.{List}
 use Prim.Native.Nat.{ℕ, _≤_}
 use native.Mathlib.Omega.{arith}
 use lib.ListN.{length}
-use Rattle.refusals.specs.Refusals.{accepted}
 use Rattle.refusals.proofs.Laws.{both, accepts}
 use Rattle.node.specs.Lists.{keep, upto}
 use Rattle.node.specs.Instance.{Instance, FitsNode, width, chosen, price, IsPlan}

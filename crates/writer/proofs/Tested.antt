@@ -1,18 +1,16 @@
 -- The ways out of the lists' tests, stage by stage, and of writing once they are done.
-use mathlib.Core.Path.{_≡_, refl, ap, sym, _∙_}
-use mathlib.Core.List.{List, [], _∷_}
+use mathlib.Core.Path.{_≡_, ap, sym, _∙_}
+use mathlib.Core.List.{List}
 use Prim.Native.Nat.{ℕ, _+_, _≤_, _<_}
 use native.Mathlib.Omega.{arith}
 use lib.ListN.{length}
-use lib.Seq.{sets}
 use borrow.Author.Tests.{eq-eqb, ne-eqb, eqb-true, le-leb, lt-leb}
-use Rattle.refusals.specs.Refusals.{fine, fault, Outcome, accepted, refused, unless, front, numberOf}
+use Rattle.refusals.specs.Refusals.{fine, fault, Outcome, accepted, refused, unless, numberOf}
 use Rattle.refusals.specs.declared.Refusal.{Refusal}
-use Rattle.refusals.proofs.Laws.{both, asked, stops-at, goes-on, passes, fails, unless-fine, unless-fault, unless-same, accepts, refuses, front-sets}
-use Rattle.dutyfile.specs.File.{Lists, lists, bodiesAt, header, contents, render, sum, bodies}
+use Rattle.refusals.proofs.Laws.{both, asked, stops-at, goes-on, passes, fails, unless-fine, unless-fault, unless-same, accepts, refuses}
+use Rattle.dutyfile.specs.File.{Lists, lists, bodiesAt, render, sum, bodies}
 use Rattle.dutyfile.specs.Faults.{countsFault, columnsFault, bodiesFault, numbersFault, listsFault, writing}
-use Rattle.dutyfile.proofs.Facts.{column-fine}
-use Rattle.dutyfile.proofs.Round.{Passing, length-render, length-contents}
+use Rattle.dutyfile.proofs.Round.{length-render}
 use Rattle.writer.specs.declared.WriteAnswer.{WriteAnswer}
 use Rattle.writer.specs.declared.WriteAnswer.the-variants.{Refused}
 use Rattle.writer.specs.Answer.{writeOutcome}

@@ -2,7 +2,6 @@
 use mathlib.Core.Path.{ap}
 use native.Mathlib.Omega.{arith}
 use Prim.Native.Nat.{_≤_}
-use Rattle.refusals.specs.Refusals.{accepted}
 use Rattle.examine.specs.Answer.{readOutcome}
 use Rattle.flat.specs.Flat.{shapeOf}
 use borrow.Author.Needs.{needs}

@@ -2,7 +2,7 @@
 use Prim.Native.Nat.{_-_}
 use native.Mathlib.Omega.{arith}
 use borrow.Author.Needs.{needs}
-use Rattle.matrix.proofs.Covered.{Covering, Column, covering-start, covering-column, covering-next, covering-end}
+use Rattle.matrix.proofs.Covered.{Covering, covering-start, covering-column, covering-next, covering-end}
 use Rattle.matrix.proofs.cover_table.Statement.{statement}
 use Rattle.matrix.proofs.cover_table.Tie as tie
 

@@ -1,7 +1,6 @@
 -- The marks so far are ones, and the others are as they were.
 use Prim.Native.Nat.{_-_}
 use native.Mathlib.Omega.{arith}
-use Rattle.matrix.specs.Build.{ones}
 use Rattle.matrix.proofs.Root.{Marked, marked-start, marked-next, marked-end}
 use Rattle.matrix.proofs.set_marks.Statement.{statement}
 use Rattle.matrix.proofs.set_marks.Tie as tie

@@ -3,7 +3,7 @@ use mathlib.Core.Path.{_≡_, ap, _∙_}
 use native.Mathlib.Omega.{arith}
 use lib.ListN.{length}
 use lib.Seq.{length-sets}
-use Rattle.dutyfile.specs.File.{Lists, lists, header, contents}
+use Rattle.dutyfile.specs.File.{Lists, lists}
 use Rattle.dutyfile.proofs.Round.{Passing, lists-fine}
 use Rattle.render.proofs.Whole.{file-room, file-small, file-written}
 use borrow.Author.Needs.{needs}

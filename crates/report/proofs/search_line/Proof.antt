@@ -1,7 +1,7 @@
 -- The line of the call's answer is the line of the definitions' outcome.
 use mathlib.Core.Path.{sym}
 use native.Mathlib.Omega.{arith}
-use Rattle.report.proofs.Puts.{put-front}
+use Rattle.line.proofs.Puts.{put-front}
 use borrow.Author.Needs.{needs}
 use Rattle.report.proofs.search_line.Statement.{statement}
 use Rattle.report.proofs.search_line.Tie as tie

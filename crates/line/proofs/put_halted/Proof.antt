@@ -1,10 +1,10 @@
 -- Three numbers one after the other.
 use native.Mathlib.Omega.{arith}
-use Rattle.report.specs.Line.{fields}
-use Rattle.report.proofs.Puts.{put-then, put-last}
+use Rattle.line.specs.Line.{fields}
+use Rattle.line.proofs.Puts.{put-then, put-last}
 use borrow.Author.Needs.{needs}
-use Rattle.report.proofs.put_halted.Statement.{statement}
-use Rattle.report.proofs.put_halted.Tie as tie
+use Rattle.line.proofs.put_halted.Statement.{statement}
+use Rattle.line.proofs.put_halted.Tie as tie
 
 cast-put-number : tie.Need-cast-put-number
 cast-put-number c = search needs

@@ -3,11 +3,11 @@ use mathlib.Core.Path.{sym}
 use mathlib.Core.List.{_++_}
 use native.Mathlib.Omega.{arith}
 use Rattle.answer.specs.Answer.{searchOutcome}
-use Rattle.report.specs.Line.{fields, best, none, stopped, refusal, dash, wordsOf}
-use Rattle.report.proofs.Puts.{put-then, put-run, put-last}
+use Rattle.line.specs.Line.{fields, best, none, stopped, refusal, dash, wordsOf}
+use Rattle.line.proofs.Puts.{put-then, put-run, put-last}
 use borrow.Author.Needs.{needs}
-use Rattle.report.proofs.put_answer.Statement.{statement}
-use Rattle.report.proofs.put_answer.Tie as tie
+use Rattle.line.proofs.put_answer.Statement.{statement}
+use Rattle.line.proofs.put_answer.Tie as tie
 
 enum-known-answer : tie.Need-enum-known-answer
 enum-known-answer c = search needs

@@ -8,11 +8,11 @@ use native.Mathlib.Numerals.{add-one}
 use lib.ListN.{length, take, drop, length-append}
 use lib.Seq.{sets, sets-eq}
 use Rattle.refusals.specs.Refusals.{front}
-use Rattle.report.specs.Put.{Put}
+use Rattle.line.specs.Put.{Put}
 use Rattle.endian.proofs.Parts.{sets-append}
 use Rattle.io.specs.Digits.{digits, Fewest}
-use Rattle.report.specs.Line.{decimal, field}
-use Rattle.report.proofs.Numerals.{length-digits, spelled}
+use Rattle.line.specs.Line.{decimal, field}
+use Rattle.line.proofs.Numerals.{length-digits, spelled}
 
 pub put-then : (old mid new : List ℕ) (at on end : ℕ) (a b : List ℕ) → Put old mid at on a → Put mid new on end b → Put old new at end (a ++ b)
 put-then old mid new at on end a b x y = record {

@@ -1,11 +1,11 @@
 -- The library gives the digits; they are put after the space.
 use Prim.Native.Nat.{_≤_}
 use native.Mathlib.Omega.{arith}
-use Rattle.report.proofs.Numerals.{few-digits}
-use Rattle.report.proofs.Puts.{put-field}
+use Rattle.line.proofs.Numerals.{few-digits}
+use Rattle.line.proofs.Puts.{put-field}
 use borrow.Author.Needs.{needs}
-use Rattle.report.proofs.put_number.Statement.{statement}
-use Rattle.report.proofs.put_number.Tie as tie
+use Rattle.line.proofs.put_number.Statement.{statement}
+use Rattle.line.proofs.put_number.Tie as tie
 
 few : (c : tie.After-decimal) → c .decimal .result ≤ 20
 few c =

@@ -1,10 +1,10 @@
 -- The line feed comes after the words.
 use native.Mathlib.Omega.{arith}
-use Rattle.report.specs.Line.{lineOf}
-use Rattle.report.proofs.Puts.{put-then, put-run}
+use Rattle.line.specs.Line.{lineOf}
+use Rattle.line.proofs.Puts.{put-then, put-run}
 use borrow.Author.Needs.{needs}
-use Rattle.report.proofs.put_line.Statement.{statement}
-use Rattle.report.proofs.put_line.Tie as tie
+use Rattle.line.proofs.put_line.Statement.{statement}
+use Rattle.line.proofs.put_line.Tie as tie
 
 put-answer-requires : tie.Need-put-answer-requires
 put-answer-requires c κs = search needs
