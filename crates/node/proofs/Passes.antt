@@ -15,7 +15,7 @@ use Rattle.node.specs.Instance.{Instance}
 use Rattle.node.specs.Node.{isOpen, openRows}
 use Rattle.node.specs.Passes.{carry, better, follow, bestIn}
 use Rattle.node.proofs.Members.{here, there, keep-short, keep-all}
-use Rattle.node.proofs.Loops.{drop-step, take-in, take-out, from-next}
+use Rattle.node.proofs.Loops.{drop-step, take-in, take-out, drop-in, drop-out, drop-end, from-next}
 
 -- at place k of a list
 pub record Carrying {A : Type 0} (f : A → ℕ → A) (l : List ℕ) (a₀ a : A) (k : ℕ) : Type 0 where
@@ -32,6 +32,24 @@ module _ {A : Type 0} (f : A → ℕ → A) (l : List ℕ) (a₀ a : A) (k : ℕ
   pub carrying-end : length l ≤ k → a ≡ carry f a₀ l
   unfolding carry
   carrying-end h = sym (ap (carry f a) (drop-of-length-le l h)) ∙ w .left
+
+-- at place k of a list, with no element so far that passes a test
+pub record Seeking (t : ℕ → Bool) (l : List ℕ) (k : ℕ) : Type 0 where
+  pub left : keep t (drop k l) ≡ keep t l
+
+pub seeking-start : (t : ℕ → Bool) (l : List ℕ) → Seeking t l 0
+seeking-start t l = record { left = refl }
+
+module _ (t : ℕ → Bool) (l : List ℕ) (k : ℕ) (w : Seeking t l k) where
+  module _ (inside : k < length l) where
+    pub seeking-in : t (getD l k 0) ≡ true → getD l k 0 ∷ keep t (drop (k + 1) l) ≡ keep t l
+    seeking-in h = sym (drop-in t l k inside h) ∙ w .left
+
+    pub seeking-out : t (getD l k 0) ≡ false → Seeking t l (k + 1)
+    seeking-out h = record { left = sym (drop-out t l k inside h) ∙ w .left }
+
+  pub seeking-end : length l ≤ k → [] ≡ keep t l
+  seeking-end h = sym (drop-end t l k h) ∙ w .left
 
 -- what is told of the elements that pass a test, among the first k of a list
 pub record Telling {A : Type 0} (told : List ℕ → A) (t : ℕ → Bool) (l : List ℕ) (a : A) (k : ℕ) : Type 0 where

@@ -4,20 +4,12 @@ use mathlib.Core.List.{List}
 use Prim.Native.Nat.{ℕ, _≤_}
 use lib.ListN.{length}
 use borrow.Author.Tests.{leb-true}
-use Rattle.refusals.specs.Refusals.{fine, fault, accepted, refused, unless, numberOf}
-use Rattle.refusals.specs.declared.Refusal.{Refusal}
+use Rattle.refusals.specs.Refusals.{fine, fault, accepted, refused, unless}
 use Rattle.refusals.proofs.Laws.{both, asked, stops-at, goes-on, unless-fine, unless-fault, accepts, refuses}
 use Rattle.dutyfile.specs.declared.Shape.{Shape}
 use Rattle.dutyfile.specs.File.{columnsIn, parse, shape}
 use Rattle.dutyfile.specs.Faults.{headerFault, fileFault, roomsFault, reading}
-use Rattle.examine.specs.declared.ReadAnswer.{ReadAnswer}
-use Rattle.examine.specs.declared.ReadAnswer.the-variants.{Refused}
-use Rattle.examine.specs.Answer.{readOutcome}
 use Rattle.dutyfile.proofs.Facts.{length-numbers, file-fine}
-
-pub refused-is : (r : ReadAnswer) (w : Refusal) → r ≡ Refused w → readOutcome r ≡ refused (numberOf w)
-unfolding readOutcome
-refused-is r w e = rw e
 
 -- what lists of c, l and r places must hold to be filled
 pub record Roomy (s : List ℕ) (c l r : ℕ) : Type 0 where

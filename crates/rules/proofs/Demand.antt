@@ -116,7 +116,7 @@ module _ (p : Instance) (F : FitsNode p) (o : Variant) (Ok : (ℕ → Bool) → 
         few = λ l. omega (arith, few-nodes (width p) refl l);
       }
 
-  -- for a recursive function: the tree below a good node is the node entered, and the trees of its branches
+  -- the fuel of the definition cuts nothing: the tree below a good node is the node entered, and the trees of its branches
   abbrev pub tree : Node → Incumbent → Walk
   tree s k = walk (visit o p) (suc (width p)) s k
 

@@ -10,7 +10,7 @@ use Rattle.node.specs.declared.Node.{Node}
 use Rattle.node.specs.Lists.{member, pick, on}
 use Rattle.node.specs.Instance.{Instance, FitsNode, width, price, IsPlan}
 use Rattle.node.specs.Node.{isFree, costAt, freeOf, take, leave}
-use Rattle.node.specs.Stored.{ByColumn, ByRow, SomeRows}
+use Rattle.node.specs.Stored.{ByColumn, ByRow}
 use Rattle.node.proofs.Members.{kept, pick-member, least-at}
 use Rattle.rules.specs.Search.{split}
 use Rattle.rules.specs.Tree.{joined, sum, penaltyOf, withoutBound, zeros, dearer, penalty, rowBefore, columnBefore, branchOn}
@@ -121,9 +121,6 @@ BoundTo s best bound =
     (p : Instance) (t : Node) (i : ℕ) → best ≡ branchRow p t i → bound ≡ withoutBound (s .bound) (zeros (sum p) p t i) (penalty (sum p) p t i)
 
 module _ (s : Node) (rows : ℕ) (starts numbers heads entries : List ℕ) where
-  pub choice-rows : SomeChoice s rows starts numbers heads entries → SomeRows rows heads entries
-  choice-rows w = record { p = w .p; starts = starts; rows-is = w .kept .rows-is; kept = w .kept .by-row }
-
   module _ (best : BranchRow) (told : RowTo s rows heads entries best) where
     best-row : (p : Instance) → Kept p rows starts numbers heads entries → best ≡ bestRow p (view (s .cost) (s .column) (s .row))
     best-row p k = told p starts (k .rows-is) (k .by-row)

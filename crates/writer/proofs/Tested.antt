@@ -5,19 +5,11 @@ use Prim.Native.Nat.{ℕ, _+_, _≤_, _<_}
 use native.Mathlib.Omega.{arith}
 use lib.ListN.{length}
 use borrow.Author.Tests.{eq-eqb, ne-eqb, eqb-true, le-leb, lt-leb}
-use Rattle.refusals.specs.Refusals.{fine, fault, Outcome, accepted, refused, unless, numberOf}
-use Rattle.refusals.specs.declared.Refusal.{Refusal}
+use Rattle.refusals.specs.Refusals.{fine, fault, Outcome, accepted, refused, unless}
 use Rattle.refusals.proofs.Laws.{both, asked, stops-at, goes-on, passes, fails, unless-fine, unless-fault, unless-same, accepts, refuses}
 use Rattle.dutyfile.specs.File.{Lists, lists, bodiesAt, render, sum, bodies}
 use Rattle.dutyfile.specs.Faults.{countsFault, columnsFault, bodiesFault, numbersFault, listsFault, writing}
 use Rattle.dutyfile.proofs.Round.{length-render}
-use Rattle.writer.specs.declared.WriteAnswer.{WriteAnswer}
-use Rattle.writer.specs.declared.WriteAnswer.the-variants.{Refused}
-use Rattle.writer.specs.Answer.{writeOutcome}
-
-pub refused-is : (r : WriteAnswer) (w : Refusal) → r ≡ Refused w → writeOutcome r ≡ refused (numberOf w)
-unfolding writeOutcome
-refused-is r w e = rw e
 
 -- the row numbers
 module _ (m : ℕ) (ls ns : List ℕ) (size : ℕ) where

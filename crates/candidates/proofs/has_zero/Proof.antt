@@ -2,18 +2,18 @@
 use Prim.Native.Nat.{_-_}
 use lib.ListN.{length}
 use native.Mathlib.Omega.{arith}
-use Rattle.candidates.proofs.Zero.{Seeking, seeking-start, seeking-found, seeking-out, seeking-above, seeking-end}
+use Rattle.candidates.proofs.Zero.{Clear, clear-start, clear-found, clear-out, clear-above, clear-end}
 use Rattle.candidates.proofs.has_zero.Statement.{statement}
 use Rattle.candidates.proofs.has_zero.Tie as tie
 
 abbrev Inv-loop : tie.InvT-loop
-Inv-loop cost column columns k₀ k = Seeking cost column columns k
+Inv-loop cost column columns k₀ k = Clear cost column columns k
 
 abbrev μ-loop : tie.MeasureT-loop
 μ-loop cost column columns k₀ k = length columns - k
 
 loop-holds : tie.Need-loop-holds Inv-loop μ-loop
-loop-holds c = seeking-start _ _ _
+loop-holds c = clear-start _ _ _
 
 shared-slice-read-found : tie.Need-shared-slice-read-found Inv-loop μ-loop
 shared-slice-read-found c = omega arith
@@ -40,7 +40,7 @@ element-copy-out-if2 c =
 returns : tie.Need-returns Inv-loop μ-loop
 returns c =
     let l = c .before .before .before .before .before in
-    seeking-found _ _ _ _ (l .before .loop .inv) (l .loop-test .taken) (c .before .before .if1 .taken) (c .if2 .taken)
+    clear-found _ _ _ _ (l .before .loop .inv) (l .loop-test .taken) (c .before .before .if1 .taken) (c .if2 .taken)
 
 loop-less : tie.Need-loop-less Inv-loop μ-loop
 loop-less c = omega arith
@@ -48,7 +48,7 @@ loop-less c = omega arith
 loop-again : tie.Need-loop-again Inv-loop μ-loop
 loop-again c =
     let l = c .before .before .before .before .before in
-    seeking-above _ _ _ _ (l .before .loop .inv) (l .loop-test .taken) (c .if2 .left)
+    clear-above _ _ _ _ (l .before .loop .inv) (l .loop-test .taken) (c .if2 .left)
 
 loop-less-2 : tie.Need-loop-less-2 Inv-loop μ-loop
 loop-less-2 c = omega arith
@@ -56,10 +56,10 @@ loop-less-2 c = omega arith
 loop-again-2 : tie.Need-loop-again-2 Inv-loop μ-loop
 loop-again-2 c =
     let l = c .before .before .before in
-    seeking-out _ _ _ _ (l .before .loop .inv) (l .loop-test .taken) (c .if1 .left)
+    clear-out _ _ _ _ (l .before .loop .inv) (l .loop-test .taken) (c .if1 .left)
 
 returns-2 : tie.Need-returns-2 Inv-loop μ-loop
-returns-2 c = seeking-end _ _ _ _ (c .before .loop .inv) (c .loop-test .left)
+returns-2 c = clear-end _ _ _ _ (c .before .loop .inv) (c .loop-test .left)
 
 pub has-zero-spec : {M : Type 1} → statement M
 has-zero-spec =

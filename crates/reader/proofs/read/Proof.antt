@@ -1,12 +1,12 @@
 -- A file is examined, then the lists' room; only where both pass are the lists filled.
-use mathlib.Core.Path.{_≡_, refl, sym, _∙_}
+use mathlib.Core.Path.{_≡_, refl, ap, sym, _∙_}
 use lib.ListN.{length}
 use Rattle.refusals.specs.Refusals.{accepted, unless, filled}
 use Rattle.refusals.proofs.Laws.{failed, passed, keeps}
 use Rattle.dutyfile.specs.File.{shape}
 use Rattle.dutyfile.specs.Faults.{fileFault}
 use Rattle.examine.specs.Answer.{readOutcome}
-use Rattle.reader.proofs.Rooms.{refused-is, reading-refused, reading-short, reading-done, Roomy, roomy}
+use Rattle.reader.proofs.Rooms.{reading-refused, reading-short, reading-done, Roomy, roomy}
 use borrow.Author.Needs.{needs}
 use Rattle.reader.proofs.read.Statement.{statement}
 use Rattle.reader.proofs.read.Tie as tie
@@ -55,9 +55,10 @@ fill-rows-requires c κs =
     (r .header, r .rows)
 
 returns : tie.Need-returns
+unfolding readOutcome
 returns c =
     let x = c .before .before in
-    let o = refused-is _ _ (c .enum-told .given .1) in
+    let o = ap readOutcome (c .enum-told .given .1) in
     (o ∙ reading-refused _ _ _ _ _ (sym o ∙ x .examine .ensures), (keeps _ _ _ o, (keeps _ _ _ o, keeps _ _ _ o)))
 
 returns-2 : tie.Need-returns-2

@@ -1,5 +1,5 @@
 -- The lists are tested, then the buffer's room; only where both pass is the file written.
-use mathlib.Core.Path.{_≡_, refl, sym, _∙_}
+use mathlib.Core.Path.{_≡_, refl, ap, sym, _∙_}
 use Prim.Native.Nat.{ℕ}
 use native.Mathlib.Omega.{arith}
 use Rattle.refusals.specs.Refusals.{accepted, filled}
@@ -7,7 +7,7 @@ use Rattle.refusals.proofs.Laws.{keeps}
 use Rattle.dutyfile.specs.File.{lists}
 use Rattle.writer.specs.Answer.{writeOutcome}
 use Rattle.writer.specs.declared.WriteAnswer.the-variants.{Written}
-use Rattle.writer.proofs.Tested.{tested, refused-is, writing-refused, writing-fine, writing-size, writing-short, writing-done}
+use Rattle.writer.proofs.Tested.{tested, writing-refused, writing-fine, writing-size, writing-short, writing-done}
 use borrow.Author.Needs.{needs}
 use Rattle.writer.proofs.write.Statement.{statement}
 use Rattle.writer.proofs.write.Tie as tie
@@ -38,8 +38,9 @@ put-file-requires c κs =
     (writing-fine _ 0 _ e, omega (arith, writing-size _ 0 _ e, c .before .if1 .left))
 
 returns-2 : tie.Need-returns-2
+unfolding writeOutcome
 returns-2 c =
-    let o = refused-is _ _ (c .enum-told .given .1) in
+    let o = ap writeOutcome (c .enum-told .given .1) in
     (o ∙ writing-refused _ _ _ (sym o ∙ c .before .before .check-lists .ensures), keeps _ _ _ o)
 
 same-length : tie.Need-same-length
