@@ -31,8 +31,9 @@ part-put-start c = search needs
 
 part-put-end : tie.Need-part-put-end
 part-put-end c =
-    let l : length (c .before .before .before .before .before .before .before .before .before .before .before .before .before .args .done .used) ≡ 64 = search needs in
-    omega (arith, l, c .before .before .before .before .before .before .before .before .before .before .before .before .before .pre .few)
+    let a = c .before .before .before .before .before .before .before .before .before .before .before .before .before in
+    let l : length (a .args .done .used) ≡ 64 = search needs in
+    omega (arith, l, a .pre .few)
 
 put-requires : tie.Need-put-requires
 put-requires c κs = search needs

@@ -20,14 +20,15 @@ same-length-2 c = search needs
 
 returns : tie.Need-returns
 returns c =
-    let s = c .before .before .before .before .before .before .search in
+    let d = c .before .before .before .before .before .before in
+    let s = d .search in
     let k = c .before .before .put-line in
     let q = rw (s .ensures .0) at (k .ensures .1) in (
       k .ensures .0,
       (
         omega (arith, q .ends),
         (
-          put-front _ _ _ _ q (omega (arith, k .ensures .0, c .before .before .before .before .before .before .before .before .before .before .before .pre)),
+          put-front _ _ _ _ q (omega (arith, k .ensures .0, d .before .before .before .before .before .pre)),
           rw (sym (s .ensures .0)) (s .ensures .1 .0),
         ),
       ),

@@ -94,43 +94,55 @@ branch-node-requires t c κs =
 
 branch-returns : (t : ℕ) → branch-lts.Need-returns (branch-claims t) (branch-at t) branch.Post
 branch-returns t c =
-    let s = c .before .before .before .before .before .before .before .before .before .before in
-    let u = c .before .node in
-    (branch-stops _ _ _ _ _ (s .args .t1) (s .args .t) _ (c .before .before .before .choose .ensures) _ (c .before .before .take .ensures) (u .result) (u .ensures .0) (c .if1 .taken), u .ensures .1)
+    let u = c .before in
+    let k = u .before in
+    let d = k .before in
+    let a = d .before .before .before .before .before .before .before .args in (
+      branch-stops _ _ _ _ _ (a .t1) (a .t) _ (d .choose .ensures) _ (k .take .ensures) (u .node .result) (u .node .ensures .0) (c .if1 .taken),
+      u .node .ensures .1,
+    )
 
 branch-is-reached-requires : (t : ℕ) → branch-lts.Need-is-reached-requires (branch-claims t) (branch-at t) branch.Post
 branch-is-reached-requires t c κs = tt
 
 branch-returns-2 : (t : ℕ) → branch-lts.Need-returns-2 (branch-claims t) (branch-at t) branch.Post
 branch-returns-2 t c =
-    let s = c .before .before .before .before .before .before .before .before .before .before .before .before in
-    let a = c .before .before in
-    let u = a .before .node in (
-      branch-reached _ _ _ _ _ (s .args .t1) (s .args .t) _ (a .before .before .before .choose .ensures) _ (a .before .before .take .ensures) (u .result) (u .ensures .0) (a .if1 .left)
+    let f = c .before .before in
+    let u = f .before in
+    let k = u .before in
+    let d = k .before in
+    let a = d .before .before .before .before .before .before .before .args in (
+      branch-reached _ _ _ _ _ (a .t1) (a .t) _ (d .choose .ensures) _ (k .take .ensures) (u .node .result) (u .node .ensures .0) (f .if1 .left)
           _ (c .before .is-reached .ensures) (c .if2 .taken),
-      u .ensures .1,
+      u .node .ensures .1,
     )
 
 branch-leave-requires : (t : ℕ) → branch-lts.Need-leave-requires (branch-claims t) (branch-at t) branch.Post
 branch-leave-requires t c κs =
-    column-low _ _ _ _ _ _ _ _ (c .before .before .before .before .before .choose .ensures) (c .before .before .before .before .before .before .before .before .before .before .before .before .pre .1)
+    let d = c .before .before .before .before .before in
+    column-low _ _ _ _ _ _ _ _ (d .choose .ensures) (d .before .before .before .before .before .before .before .pre .1)
 
 branch-node-requires-2 : (t : ℕ) → branch-lts.Need-node-requires-2 (branch-claims t) (branch-at t) branch.Post
 branch-node-requires-2 t c κs =
-    let a = c .before .before .before .before .before .before .before .before .before .before .before .before .before in
+    let u = c .before .before .before .before in
+    let k = u .before .before in
+    let a = k .before .before .before .before .before .before .before in
     let w = a .pre in
-    let d = c .before .before .before .before .before .before .choose .ensures in
+    let d = k .choose .ensures in
     let l = second-falls _ _ _ _ _ (a .args .t1) (a .args .t) _ d _ (c .leave .ensures) (w .1) in
-    (omega (arith, l, w .0), second-walks _ _ _ _ _ (a .args .t1) (a .args .t) _ d _ (c .leave .ensures) (w .1) _ (c .before .before .before .before .node .ensures .1))
+    (omega (arith, l, w .0), second-walks _ _ _ _ _ (a .args .t1) (a .args .t) _ d _ (c .leave .ensures) (w .1) _ (u .node .ensures .1))
 
 branch-returns-3 : (t : ℕ) → branch-lts.Need-returns-3 (branch-claims t) (branch-at t) branch.Post
 branch-returns-3 t c =
-    let s = c .before .before .before .before .before .before .before .before .before .before .before .before .before .before in
-    let a = c .before .before .before .before in
-    let u = a .before .node in (
-      branch-goes _ _ _ _ _ (s .args .t1) (s .args .t) _ (a .before .before .before .choose .ensures) _ (a .before .before .take .ensures) (u .result) (u .ensures .0) (a .if1 .left)
-          _ (c .before .before .before .is-reached .ensures) (c .before .before .if2 .left) _ (c .before .leave .ensures) (c .node2 .result) (c .node2 .ensures .0),
-      c .node2 .ensures .1 ∙ u .ensures .1,
+    let g = c .before .before in
+    let f = g .before .before in
+    let u = f .before in
+    let k = u .before in
+    let d = k .before in
+    let a = d .before .before .before .before .before .before .before .args in (
+      branch-goes _ _ _ _ _ (a .t1) (a .t) _ (d .choose .ensures) _ (k .take .ensures) (u .node .result) (u .node .ensures .0) (f .if1 .left) _
+          (g .before .is-reached .ensures) (g .if2 .left) _ (c .before .leave .ensures) (c .node2 .result) (c .node2 .ensures .0),
+      c .node2 .ensures .1 ∙ u .node .ensures .1,
     )
 
 node-halt-requires : (t : ℕ) → node-lts.Need-halt-requires (node-claims t) (node-at t) node.Post
@@ -138,7 +150,8 @@ node-halt-requires t c κs = tt
 
 node-returns : (t : ℕ) → node-lts.Need-returns (node-claims t) (node-at t) node.Post
 node-returns t c =
-    (node-halts _ _ _ _ _ _ (c .before .before .before .before .before .args .t) (c .before .if1 .taken) (c .halt .result) (c .halt .ensures), halted-sum (c .before .before .before .before .before .args .t) (c .halt .result) (c .halt .ensures))
+    let v = c .before .before .before .before .before .args .t in
+    (node-halts _ _ _ _ _ _ v (c .before .if1 .taken) (c .halt .result) (c .halt .ensures), halted-sum v (c .halt .result) (c .halt .ensures))
 
 node-enter-requires : (t : ℕ) → node-lts.Need-enter-requires (node-claims t) (node-at t) node.Post
 node-enter-requires t c κs =
@@ -150,22 +163,28 @@ node-settle-node-requires t c κs = c .before .before .before .before .before .p
 
 node-returns-2 : (t : ℕ) → node-lts.Need-returns-2 (node-claims t) (node-at t) node.Post
 node-returns-2 t c =
-    let v = c .before .before .before .before .before .before .before .before .args .t in
-    let e = c .before .before .before .enter .result in
-    let z = c .before .before .before .before .if1 .left in
-    let u = c .before .before .before .enter .ensures in
-    (node-ends _ _ _ _ _ _ v z e u _ (c .before .before .settle-node .ensures) (not-true _ (c .if2 .taken)), entered-sum v e z u)
+    let n = c .before .before in
+    let m = n .before in
+    let z = m .before .if1 .left in
+    let v = m .before .before .before .before .before .args .t in
+    let e = m .enter .result in
+    let u = m .enter .ensures in
+    (node-ends _ _ _ _ _ _ v z e u _ (n .settle-node .ensures) (not-true _ (c .if2 .taken)), entered-sum v e z u)
 
 node-offer-requires : (t : ℕ) → node-lts.Need-offer-requires (node-claims t) (node-at t) node.Post
 node-offer-requires t c κs = tt
 
 node-returns-3 : (t : ℕ) → node-lts.Need-returns-3 (node-claims t) (node-at t) node.Post
 node-returns-3 t c =
-    let v = c .before .before .before .before .before .before .before .before .before .before .before .args .t in
-    let e = c .before .before .before .before .before .before .enter .result in
-    let z = c .before .before .before .before .before .before .before .if1 .left in
-    let u = c .before .before .before .before .before .before .enter .ensures in (
-      node-offers _ _ _ _ _ _ v z e u _ (c .before .before .before .before .before .settle-node .ensures) (not-false _ (c .before .before .before .if2 .left)) (c .before .if3 .taken) (c .offer .result) (c .offer .ensures),
+    let f = c .before in
+    let g = f .before .before in
+    let n = g .before .before in
+    let m = n .before in
+    let z = m .before .if1 .left in
+    let v = m .before .before .before .before .before .args .t in
+    let e = m .enter .result in
+    let u = m .enter .ensures in (
+      node-offers _ _ _ _ _ _ v z e u _ (n .settle-node .ensures) (not-false _ (g .if2 .left)) (f .if3 .taken) (c .offer .result) (c .offer .ensures),
       offered-sum e (c .offer .result) _ _ (c .offer .ensures) ∙ entered-sum v e z u,
     )
 
@@ -174,33 +193,44 @@ node-is-reached-requires t c κs = tt
 
 node-returns-4 : (t : ℕ) → node-lts.Need-returns-4 (node-claims t) (node-at t) node.Post
 node-returns-4 t c =
-    let v = c .before .before .before .before .before .before .before .before .before .before .before .before .args .t in
-    let e = c .before .before .before .before .before .before .before .enter .result in
-    let z = c .before .before .before .before .before .before .before .before .if1 .left in
-    let u = c .before .before .before .before .before .before .before .enter .ensures in (
-      node-reached _ _ _ _ _ _ v z e u _ (c .before .before .before .before .before .before .settle-node .ensures) (not-false _ (c .before .before .before .before .if2 .left)) (c .before .before .if3 .left) _
-          (c .before .is-reached .ensures) (c .if4 .taken),
+    let f = c .before .before in
+    let g = f .before .before in
+    let n = g .before .before in
+    let m = n .before in
+    let z = m .before .if1 .left in
+    let v = m .before .before .before .before .before .args .t in
+    let e = m .enter .result in
+    let u = m .enter .ensures in (
+      node-reached _ _ _ _ _ _ v z e u _ (n .settle-node .ensures) (not-false _ (g .if2 .left)) (f .if3 .left) _ (c .before .is-reached .ensures) (c .if4 .taken),
       entered-sum v e z u,
     )
 
 node-branch-requires : (t : ℕ) → node-lts.Need-branch-requires (node-claims t) (node-at t) node.Post
 node-branch-requires t c κs =
-    let v = c .before .before .before .before .before .before .before .before .before .before .before .before .args .t in
-    let e = c .before .before .before .before .before .before .before .enter .result in
-    let w = c .before .before .before .before .before .before .before .before .before .before .before .before .pre in
-    let z = c .before .before .before .before .before .before .before .before .if1 .left in
-    let u = c .before .before .before .before .before .before .before .enter .ensures in
-    let x = c .before .before .before .before .before .before .settle-node .ensures in
+    let f = c .before .before in
+    let g = f .before .before in
+    let n = g .before .before in
+    let m = n .before in
+    let z = m .before .if1 .left in
+    let v = m .before .before .before .before .before .args .t in
+    let e = m .enter .result in
+    let u = m .enter .ensures in
+    let w = m .before .before .before .before .before .pre in
+    let x = n .settle-node .ensures in
     let l = settled-fewer _ _ _ _ _ _ v z e u _ x (w .1) in
-    (omega (arith, l, w .0), can-branch _ _ _ _ _ _ v z e u _ x (not-false _ (c .before .before .before .before .if2 .left)) (c .before .before .if3 .left) (w .1))
+    (omega (arith, l, w .0), can-branch _ _ _ _ _ _ v z e u _ x (not-false _ (g .if2 .left)) (f .if3 .left) (w .1))
 
 node-returns-5 : (t : ℕ) → node-lts.Need-returns-5 (node-claims t) (node-at t) node.Post
 node-returns-5 t c =
-    let v = c .before .before .before .before .before .before .before .before .before .before .before .before .before .args .t in
-    let e = c .before .before .before .before .before .before .before .before .enter .result in
-    let z = c .before .before .before .before .before .before .before .before .before .if1 .left in
-    let u = c .before .before .before .before .before .before .before .before .enter .ensures in (
-      node-branches _ _ _ _ _ _ v z e u _ (c .before .before .before .before .before .before .before .settle-node .ensures) (not-false _ (c .before .before .before .before .before .if2 .left)) (c .before .before .before .if3 .left) _
+    let f = c .before .before .before in
+    let g = f .before .before in
+    let n = g .before .before in
+    let m = n .before in
+    let z = m .before .if1 .left in
+    let v = m .before .before .before .before .before .args .t in
+    let e = m .enter .result in
+    let u = m .enter .ensures in (
+      node-branches _ _ _ _ _ _ v z e u _ (n .settle-node .ensures) (not-false _ (g .if2 .left)) (f .if3 .left) _
           (c .before .before .is-reached .ensures) (c .before .if4 .left) (c .branch .result) (c .branch .ensures .0),
       c .branch .ensures .1 ∙ entered-sum v e z u,
     )
