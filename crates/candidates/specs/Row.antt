@@ -10,9 +10,12 @@ use Rattle.node.specs.Lists.{keep, least}
 use Rattle.node.specs.Instance.{Instance}
 use Rattle.node.specs.Stored.{ByRow}
 
--- the node that arrays belong to, with any bound
+-- the node with these tables and bound; and with any bound, where it does not matter
+abbrev pub nodeOf : List ℕ → List ℕ → List ℕ → ℕ → Node
+nodeOf cost column row bound = record { cost = cost; column = column; row = row; bound = bound }
+
 abbrev pub view : List ℕ → List ℕ → List ℕ → Node
-view cost column row = record { cost = cost; column = column; row = row; bound = 0 }
+view cost column row = nodeOf cost column row 0
 
 -- column j is free and at cost 0
 abbrev pub zeroIn : List ℕ → List ℕ → ℕ → Bool

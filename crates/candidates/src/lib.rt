@@ -3,7 +3,9 @@ use criteria::comes_before;
 use node::row_part;
 use rules::Candidate;
 ghost use mathlib.Core.Path.{_≡_};
+ghost use mathlib.Core.Bool.{_&&_};
 ghost use Prim.Native.Nat.{_≤_, _<_};
+ghost use lib.Dec.{eqb};
 ghost use mathlib.Core.List.{[]};
 ghost use Rattle.node.specs.Instance.{Instance};
 ghost use Rattle.rules.specs.Reduce.{candidate};
@@ -123,6 +125,16 @@ fn better_of(a: Candidate, b: Candidate) -> Candidate
     a
 }
 
+// Whether a column is free and at cost 0.
+pub fn is_zero(mark: u8, cost: u32) -> bool
+    ensures { λ r. ⌜ r ≡ (eqb mark 1 && eqb cost 0) ⌝ }
+{
+    if mark != 1 {
+        return false;
+    }
+    cost == 0
+}
+
 // Whether one of some columns is free and at cost 0.
 fn has_zero(cost: &[u32; 256], column: &[u8; 256], columns: &[u8]) -> bool
     ensures { λ r. ⌜ r ≡ hasZero (now (cost .entry)) (now (column .entry)) (now (columns .entry)) ⌝ }
@@ -131,10 +143,8 @@ fn has_zero(cost: &[u32; 256], column: &[u8; 256], columns: &[u8]) -> bool
     while k < columns.len() {
         let found = columns[k] as usize;
         k += 1;
-        if column[found] == 1 {
-            if cost[found] == 0 {
-                return true;
-            }
+        if is_zero(column[found], cost[found]) {
+            return true;
         }
     }
     false

@@ -1,26 +1,15 @@
 // The choice of the column to branch on.
+use candidates::is_zero;
 use node::column_part;
 use node::row_part;
 ghost use mathlib.Core.Path.{_≡_};
 ghost use mathlib.Core.List.{List, []};
-ghost use mathlib.Core.Bool.{_&&_};
 ghost use Prim.Native.Nat.{ℕ, _≤_, _<_};
-ghost use lib.Dec.{eqb};
 ghost use lib.ListN.{length, getD};
 ghost use Rattle.node.specs.Instance.{Instance, width};
 ghost use Rattle.node.specs.Stored.{ByColumn, ByRow, InRows, SomeBody};
 ghost use Rattle.candidates.specs.Row.{view, zeroIn};
 ghost use Rattle.columns.specs.Column.{Counted, InColumns, sharingIn, branchColumn, columnPrecedes, columnOf, bestColumn, Few, SomeColumn, SomeList, SomeBoth};
-
-// Whether a column is free and at cost 0.
-fn is_zero(mark: u8, cost: u32) -> bool
-    ensures { λ r. ⌜ r ≡ (eqb mark 1 && eqb cost 0) ⌝ }
-{
-    if mark != 1 {
-        return false;
-    }
-    cost == 0
-}
 
 // Marks the free columns of a row at cost 0 as seen, and counts those that were not.
 fn mark_row(cost: &[u32; 256], column: &[u8; 256], row: &[u8], seen: &mut [u8; 256]) -> u32

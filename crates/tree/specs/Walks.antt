@@ -36,10 +36,6 @@ pub record SomeBranches (s : Node) (t : Tally) (rows : ℕ) (starts numbers head
   pub node : Branches p s
   pub count : t .nodes + t .left ≤ 1000000
 
--- the node with these tables and bound
-abbrev pub nodeOf : List ℕ → List ℕ → List ℕ → ℕ → Node
-nodeOf cost column row bound = record { cost = cost; column = column; row = row; bound = bound }
-
 pub record SomeChoice (s : Node) (rows : ℕ) (starts numbers heads entries : List ℕ) : Type 0 where
   pub p : Instance
   pub kept : Kept p rows starts numbers heads entries

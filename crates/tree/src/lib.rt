@@ -17,9 +17,10 @@ ghost use Rattle.rules.specs.Limited.{proceed, limited};
 ghost use Rattle.rules.specs.Tree.{sum, visit};
 ghost use Rattle.rules.proofs.Costs.{Good};
 ghost use Rattle.rules.proofs.Rows.{size};
+ghost use Rattle.candidates.specs.Row.{nodeOf};
 ghost use Rattle.visit.specs.Tally.{shown};
 ghost use Rattle.visit.specs.Settled.{Kept, SomeNode, settled};
-ghost use Rattle.tree.specs.Walks.{Walks, Branches, SomeBranches, branches, nodeOf, SomeChoice, Chosen};
+ghost use Rattle.tree.specs.Walks.{Walks, Branches, SomeBranches, branches, SomeChoice, Chosen};
 
 // Settles a node. A function of its own, so that the copy of the node that is handed on takes no room while the branches are walked.
 fn settle_node(
