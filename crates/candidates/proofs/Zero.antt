@@ -8,14 +8,15 @@ use lib.ListN.{length, getD}
 use lib.Dec.{eqb}
 use borrow.Author.Tests.{eqb-true}
 use Rattle.node.specs.Lists.{keep, isEmpty, member}
-use Rattle.node.specs.Instance.{Instance}
+use Rattle.node.specs.Matrix.{Matrix}
 use Rattle.node.specs.Stored.{rowColumns}
 use Rattle.node.specs.Node.{isFree, freeOf}
 use Rattle.rules.specs.Reduce.{leastOf}
 use Rattle.node.proofs.Members.{and-both, here, kept, member-keep, least-le}
 use Rattle.node.proofs.Passes.{Seeking, seeking-in, seeking-end}
 use Rattle.node.proofs.Parts.{free-row}
-use Rattle.candidates.specs.Row.{view, zeroIn}
+use Rattle.node.specs.View.{view}
+use Rattle.candidates.specs.Row.{zeroIn}
 use Rattle.candidates.specs.Best.{hasZero}
 
 -- at place k, with none so far that passes a test
@@ -34,7 +35,7 @@ unfolding isEmpty
 some [] h = absurd (false≢true (sym h))
 some (j ∷ ks) h = (j, here j ks)
 
-pub zero-least : (p : Instance) (cost column row js : List ℕ) (i : ℕ) → js ≡ rowColumns p i → true ≡ hasZero cost column js →
+pub zero-least : (p : Matrix) (cost column row js : List ℕ) (i : ℕ) → js ≡ rowColumns p i → true ≡ hasZero cost column js →
     leastOf p (view cost column row) i ≡ 0
 unfolding leastOf
 zero-least p cost column row js i e h =

@@ -1,5 +1,7 @@
 // Row statistics, and the best candidate of a node.
 use criteria::comes_before;
+use node::column_size;
+use node::row_count;
 use node::row_part;
 use rules::Candidate;
 ghost use mathlib.Core.Path.{_≡_};
@@ -7,11 +9,11 @@ ghost use mathlib.Core.Bool.{_&&_};
 ghost use Prim.Native.Nat.{_≤_, _<_};
 ghost use lib.Dec.{eqb};
 ghost use mathlib.Core.List.{[]};
-ghost use Rattle.node.specs.Instance.{Instance};
 ghost use Rattle.rules.specs.Reduce.{candidate};
-ghost use Rattle.node.specs.Stored.{ByRow};
-ghost use Rattle.candidates.specs.Row.{view, joined, tallyIn, Listed, SomeRow};
-ghost use Rattle.candidates.specs.Best.{better, bestOf, hasZero, SomeRows};
+ghost use Rattle.node.specs.Stored.{matrixIn, Kept, HasRow, Columns};
+ghost use Rattle.node.specs.View.{view};
+ghost use Rattle.candidates.specs.Row.{joined, tallyIn, Listed};
+ghost use Rattle.candidates.specs.Best.{better, bestOf, hasZero};
 
 // The statistics with one more free column, of a cost and a number of rows.
 fn join(a: Candidate, cost: u32, size: u32) -> Candidate
@@ -67,12 +69,12 @@ fn join(a: Candidate, cost: u32, size: u32) -> Candidate
 fn statistics(
     cost: &[u32; 256],
     column: &[u8; 256],
-    starts: &[u16; 257],
-    row: &[u8],
+    matrix: &[u16],
+    row: &[u16],
     i: u32,
 ) -> Candidate
-    requires { ⌜ Listed (now starts) (now row) ⌝ }
-    ensures { λ r. ⌜ r ≡ tallyIn (now (cost .entry)) (now (column .entry)) (now (starts .entry)) (now (row .entry)) i ⌝ }
+    requires { ⌜ Listed (now matrix) (now row) ⌝ }
+    ensures { λ r. ⌜ r ≡ tallyIn (matrixIn (now (matrix .entry))) (now (cost .entry)) (now (column .entry)) (now (row .entry)) i ⌝ }
 {
     let mut found = Candidate {
         free: 0,
@@ -86,27 +88,20 @@ fn statistics(
         let j = row[k] as usize;
         k += 1;
         if column[j] == 1 {
-            let size = starts[j + 1] - starts[j];
-            found = join(found, cost[j], size as u32);
+            let size = column_size(matrix, j);
+            found = join(found, cost[j], size);
         }
     }
     found
 }
 
 // What the criteria look at in a row of a matrix.
-pub fn row_candidate(
-    cost: &[u32; 256],
-    column: &[u8; 256],
-    starts: &[u16; 257],
-    heads: &[u16; 65],
-    entries: &[u8],
-    i: usize,
-) -> Candidate
-    requires { ⌜ SomeRow (now starts) (now heads) (now entries) i ⌝ }
-    ensures { λ r. ⌜ ((p : Instance) → ByRow p (now (starts .entry)) (now (heads .entry)) (now (entries .entry)) → i < p .rows → r ≡ candidate p (view (now (cost .entry)) (now (column .entry)) []) i) ⌝ }
+pub fn row_candidate(cost: &[u32; 256], column: &[u8; 256], matrix: &[u16], i: usize) -> Candidate
+    requires { ⌜ HasRow (now matrix) i ⌝ }
+    ensures { λ r. ⌜ r ≡ candidate (matrixIn (now (matrix .entry))) (view (now (cost .entry)) (now (column .entry)) []) i ⌝ }
 {
-    let row = row_part(heads, entries, i);
-    statistics(cost, column, starts, row, i as u32)
+    let row = row_part(matrix, i);
+    statistics(cost, column, matrix, row, i as u32)
 }
 
 // The better of the best so far and one more row: a row with cost 0 is no candidate.
@@ -136,7 +131,8 @@ pub fn is_zero(mark: u8, cost: u32) -> bool
 }
 
 // Whether one of some columns is free and at cost 0.
-fn has_zero(cost: &[u32; 256], column: &[u8; 256], columns: &[u8]) -> bool
+fn has_zero(cost: &[u32; 256], column: &[u8; 256], columns: &[u16]) -> bool
+    requires { ⌜ Columns (now columns) ⌝ }
     ensures { λ r. ⌜ r ≡ hasZero (now (cost .entry)) (now (column .entry)) (now (columns .entry)) ⌝ }
 {
     let mut k = 0;
@@ -155,14 +151,12 @@ pub fn best_candidate<'a>(
     cost: &'a [u32; 256],
     column: &'a [u8; 256],
     row: &'a [u8; 64],
-    rows: usize,
-    starts: &[u16; 257],
-    heads: &[u16; 65],
-    entries: &[u8],
+    matrix: &[u16],
 ) -> Candidate
-    requires { ⌜ SomeRows rows (now starts) (now heads) (now entries) ⌝ }
-    ensures { λ r. ⌜ ((p : Instance) → rows ≡ p .rows → ByRow p (now (starts .entry)) (now (heads .entry)) (now (entries .entry)) → r ≡ bestOf p (view (now (cost .entry)) (now (column .entry)) (now (row .entry)))) ⌝ }
+    requires { ⌜ Kept (now matrix) ⌝ }
+    ensures { λ r. ⌜ r ≡ bestOf (matrixIn (now (matrix .entry))) (view (now (cost .entry)) (now (column .entry)) (now (row .entry))) ⌝ }
 {
+    let rows = row_count(matrix);
     let mut best = Candidate {
         free: 0,
         ties: 0,
@@ -175,9 +169,9 @@ pub fn best_candidate<'a>(
         let at = i;
         i += 1;
         if row[at] == 1 {
-            let columns = row_part(heads, entries, at);
+            let columns = row_part(matrix, at);
             if !has_zero(cost, column, columns) {
-                let found = row_candidate(cost, column, starts, heads, entries, at);
+                let found = row_candidate(cost, column, matrix, at);
                 best = better_of(best, found);
             }
         }

@@ -2,5 +2,5 @@ mod Tally
 mod Criteria
 mod Row
 mod Rows
-mod Without
 pub mod Picked
+pub mod Without

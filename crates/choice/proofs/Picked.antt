@@ -6,13 +6,13 @@ use Prim.Native.Nat.{ℕ}
 use Rattle.node.specs.declared.Node.{Node}
 use Rattle.node.specs.Lists.{pick}
 use Rattle.node.specs.Passes.{bestIn}
-use Rattle.node.specs.Instance.{Instance}
+use Rattle.node.specs.Matrix.{Matrix}
 use Rattle.node.specs.Node.{freeColumns, freeOf, openRows}
 use Rattle.rules.specs.Tree.{sum, zeros, dearer, penalty, rowBefore}
-use Rattle.candidates.specs.Row.{view}
+use Rattle.node.specs.View.{view}
 use Rattle.choice.specs.Row.{branchRow, noRow, bestRow}
 
-module _ (p : Instance) (s : Node) where
+module _ (p : Matrix) (s : Node) where
   pub row-of : bestRow p (view (s .cost) (s .column) (s .row)) ≡ bestRow p s
   unfolding branchRow rowBefore zeros penalty dearer freeOf freeColumns openRows
   row-of = refl

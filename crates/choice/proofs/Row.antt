@@ -10,13 +10,13 @@ use lib.Dec.{eqb, ltb}
 use borrow.Author.Tests.{lt-ltb}
 use Rattle.node.specs.declared.Node.{Node}
 use Rattle.node.specs.Lists.{keep, least}
-use Rattle.node.specs.Instance.{Instance, width, columns, covers}
+use Rattle.node.specs.Matrix.{Matrix, width, columns, covers}
+use Rattle.node.specs.Stored.{rowColumns}
 use Rattle.node.specs.Node.{isFree, costAt, freeColumns, freeOf}
 use Rattle.rules.specs.Reduce.{byOrder}
 use Rattle.rules.specs.Tree.{sum, just, penaltyOf, zeros, dearer, penalty, rowBefore}
 use Rattle.node.proofs.Members.{keep-short, keep-upto}
-use Rattle.node.specs.Stored.{rowColumns}
-use Rattle.candidates.specs.Row.{view}
+use Rattle.node.specs.View.{view}
 use Rattle.node.proofs.Parts.{free-row}
 use Rattle.choice.specs.Row.{amount, penaltyAt, branchRow, precedes, noRow, tally, tallyIn}
 use Rattle.choice.proofs.Tally.{least-above}
@@ -31,7 +31,7 @@ unfolding penaltyAt
 above-zero zero h = absurd (omega arith)
 above-zero (suc c) h = refl
 
-module _ (p : Instance) (s : Node) where
+module _ (p : Matrix) (s : Node) where
   tally-row : (i : ℕ) → tally (costAt s) (freeOf p s i) i ≡ branchRow p s i
   unfolding tally branchRow zeros dearer penalty
   tally-row i = rw (amount-is (costAt s) (keep (λ j. ltb 0 (costAt s j)) (freeOf p s i)))
@@ -51,7 +51,7 @@ module _ (p : Instance) (s : Node) where
   unfolding precedes branchRow rowBefore
   same-order i k = rw (number-of i, number-of k)
 
-  -- every row of an instance comes before none
+  -- every row of a matrix comes before none
   pub before-none : width p ≤ 256 → (i : ℕ) → precedes (branchRow p s i) noRow ≡ true
   unfolding precedes branchRow byOrder zeros freeOf freeColumns
   before-none w i =
@@ -64,8 +64,7 @@ module _ (p : Instance) (s : Node) where
       ) in
       rw (lt-ltb (length (zeros (sum p) p s i)) 257 l)
 
--- the columns of a row
-pub row-is : (p : Instance) (i : ℕ) (cost column row : List ℕ) → row ≡ rowColumns p i →
+pub row-is : (p : Matrix) (i : ℕ) (cost column row : List ℕ) → row ≡ rowColumns p i →
     tallyIn cost column row i ≡ branchRow p (view cost column []) i
 row-is p i cost column row is =
     let s : Node = view cost column [] in

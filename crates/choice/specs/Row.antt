@@ -7,7 +7,7 @@ use lib.Dec.{eqb, ltb}
 use Rattle.node.specs.declared.Node.{Node}
 use Rattle.node.specs.Lists.{keep, least}
 use Rattle.node.specs.Passes.{bestIn}
-use Rattle.node.specs.Instance.{Instance}
+use Rattle.node.specs.Matrix.{Matrix}
 use Rattle.node.specs.Node.{freeOf, openRows}
 use Rattle.rules.specs.Reduce.{byOrder}
 use Rattle.rules.specs.Tree.{sum, Penalty, just, most, aboveP, sameP, zeros, penalty, rowBefore}
@@ -23,7 +23,7 @@ penaltyAt zero = most
 penaltyAt (suc c) = just (suc c)
 
 -- what the choice looks at in row i
-unfoldable pub branchRow : Instance → Node → ℕ → BranchRow
+unfoldable pub branchRow : Matrix → Node → ℕ → BranchRow
 branchRow p s i = record {
   zeros = length (zeros (sum p) p s i);
   penalty = amount (penalty (sum p) p s i);
@@ -44,10 +44,14 @@ abbrev pub noRow : BranchRow
 noRow = record { zeros = 257; penalty = 0; free = 0; row = 0 }
 
 -- the row to branch on
-abbrev pub bestRow : Instance → Node → BranchRow
+abbrev pub bestRow : Matrix → Node → BranchRow
 bestRow p s = bestIn (branchRow p s) (rowBefore (sum p) p s) noRow (openRows p s)
 
--- the same of a row's free columns js, with f their costs
+-- the bound b, with the penalty of row a where just one of its columns is at cost 0
+unfoldable pub boundWithout : ℕ → BranchRow → ℕ
+boundWithout b a = cond (eqb (a .zeros) 1) (b + a .penalty) b
+
+-- what the choice looks at in row i, with js its free columns and f their costs
 unfoldable pub tally : (ℕ → ℕ) → List ℕ → ℕ → BranchRow
 tally f js i = record {
   zeros = length (keep (λ j. eqb (f j) 0) js);

@@ -1,15 +1,14 @@
 // The choice of the row to branch on, and the bound of the branch without the column.
+use node::row_count;
 use node::row_part;
 ghost use mathlib.Core.Path.{_≡_};
-ghost use mathlib.Core.List.{List, []};
-ghost use Prim.Native.Nat.{ℕ, _+_, _≤_, _<_};
+ghost use mathlib.Core.List.{[]};
+ghost use Prim.Native.Nat.{_+_, _≤_, _<_};
 ghost use lib.ListN.{length};
-ghost use Rattle.node.specs.Instance.{Instance};
-ghost use Rattle.node.specs.declared.Node.{Node};
-ghost use Rattle.rules.specs.Tree.{sum, aboveP, zeros, penalty, withoutBound};
-ghost use Rattle.node.specs.Stored.{ByRow, SomeRow, SomeRows};
-ghost use Rattle.candidates.specs.Row.{view};
-ghost use Rattle.choice.specs.Row.{penaltyAt, branchRow, precedes, bestRow, lowerPenalty, joined, tallyIn};
+ghost use Rattle.rules.specs.Tree.{aboveP};
+ghost use Rattle.node.specs.Stored.{matrixIn, Kept, HasRow, Columns};
+ghost use Rattle.node.specs.View.{view};
+ghost use Rattle.choice.specs.Row.{penaltyAt, branchRow, precedes, bestRow, boundWithout, lowerPenalty, joined, tallyIn};
 
 // What the choice of the row looks at in an open row.
 pub struct BranchRow {
@@ -59,8 +58,8 @@ fn join(a: BranchRow, cost: u32) -> BranchRow
 }
 
 // The statistics of row i, in one pass over its columns.
-fn statistics(cost: &[u32; 256], column: &[u8; 256], row: &[u8], i: u32) -> BranchRow
-    requires { ⌜ length (now row) ≤ 4096 ⌝ }
+fn statistics(cost: &[u32; 256], column: &[u8; 256], row: &[u16], i: u32) -> BranchRow
+    requires { ⌜ Columns (now row) × (length (now row) ≤ 4096) ⌝ }
     ensures { λ r. ⌜ r ≡ tallyIn (now (cost .entry)) (now (column .entry)) (now (row .entry)) i ⌝ }
 {
     let mut found = BranchRow {
@@ -81,17 +80,11 @@ fn statistics(cost: &[u32; 256], column: &[u8; 256], row: &[u8], i: u32) -> Bran
 }
 
 // What the choice looks at in a row of a matrix.
-fn row_statistics(
-    cost: &[u32; 256],
-    column: &[u8; 256],
-    heads: &[u16; 65],
-    entries: &[u8],
-    i: usize,
-) -> BranchRow
-    requires { ⌜ SomeRow (now heads) (now entries) i ⌝ }
-    ensures { λ r. ⌜ ((p : Instance) (starts : List ℕ) → ByRow p starts (now (heads .entry)) (now (entries .entry)) → i < p .rows → r ≡ branchRow p (view (now (cost .entry)) (now (column .entry)) []) i) ⌝ }
+fn row_statistics(cost: &[u32; 256], column: &[u8; 256], matrix: &[u16], i: usize) -> BranchRow
+    requires { ⌜ HasRow (now matrix) i ⌝ }
+    ensures { λ r. ⌜ r ≡ branchRow (matrixIn (now (matrix .entry))) (view (now (cost .entry)) (now (column .entry)) []) i ⌝ }
 {
-    let row = row_part(heads, entries, i);
+    let row = row_part(matrix, i);
     statistics(cost, column, row, i as u32)
 }
 
@@ -129,13 +122,12 @@ pub fn branch_row<'a>(
     cost: &'a [u32; 256],
     column: &'a [u8; 256],
     row: &'a [u8; 64],
-    rows: usize,
-    heads: &[u16; 65],
-    entries: &[u8],
+    matrix: &[u16],
 ) -> BranchRow
-    requires { ⌜ SomeRows rows (now heads) (now entries) ⌝ }
-    ensures { λ r. ⌜ ((p : Instance) (starts : List ℕ) → rows ≡ p .rows → ByRow p starts (now (heads .entry)) (now (entries .entry)) → r ≡ bestRow p (view (now (cost .entry)) (now (column .entry)) (now (row .entry)))) ⌝ }
+    requires { ⌜ Kept (now matrix) ⌝ }
+    ensures { λ r. ⌜ r ≡ bestRow (matrixIn (now (matrix .entry))) (view (now (cost .entry)) (now (column .entry)) (now (row .entry))) ⌝ }
 {
+    let rows = row_count(matrix);
     let mut best = BranchRow {
         zeros: 257,
         penalty: 0,
@@ -147,7 +139,7 @@ pub fn branch_row<'a>(
         let at = i;
         i += 1;
         if row[at] == 1 {
-            let found = row_statistics(cost, column, heads, entries, at);
+            let found = row_statistics(cost, column, matrix, at);
             if row_precedes(found, best) {
                 best = found;
             }
@@ -159,7 +151,7 @@ pub fn branch_row<'a>(
 // The bound of the branch without the column: with the penalty where the row has just one column at cost 0.
 pub fn without_bound(bound: u32, a: BranchRow) -> u32
     requires { ⌜ bound + a .penalty < 4294967296 ⌝ }
-    ensures { λ r. ⌜ ((p : Instance) (s : Node) (i : ℕ) → a ≡ branchRow p s i → r ≡ withoutBound bound (zeros (sum p) p s i) (penalty (sum p) p s i)) ⌝ }
+    ensures { λ r. ⌜ r ≡ boundWithout bound a ⌝ }
 {
     if a.zeros == 1 {
         return bound + a.penalty;

@@ -11,34 +11,40 @@ use Rattle.node.proofs.Passes.{follow-all}
 use Rattle.node.specs.declared.Node.{Node}
 use Rattle.node.specs.Lists.{keep}
 use Rattle.node.specs.Passes.{carry, better, follow}
-use Rattle.node.specs.Instance.{Instance, width}
+use Rattle.node.specs.Matrix.{Matrix}
 use Rattle.rules.specs.Tree.{sum, columnBefore}
-use Rattle.node.proofs.Members.{kept}
-use Rattle.node.specs.Stored.{ByColumn, ByRow}
-use Rattle.node.proofs.Members.{member-at}
-use Rattle.candidates.specs.Row.{view, zeroIn}
+use Rattle.node.specs.Stored.{matrixIn, Kept, HasColumn}
+use Rattle.node.proofs.Members.{kept as member-of, member-at}
+use Rattle.node.specs.View.{view}
+use Rattle.candidates.specs.Row.{zeroIn}
 use Rattle.columns.specs.declared.BranchColumn.{BranchColumn}
-use Rattle.columns.specs.Column.{branchColumn, columnPrecedes, noColumn, columnOf, InColumns, Few, SomeColumn, SomeList}
-use Rattle.columns.proofs.Column.{column-few, column-before-none, same-column}
+use Rattle.columns.specs.Column.{branchColumn, columnPrecedes, noColumn, columnOf, InColumns, Few}
+use Rattle.columns.proofs.Column.{column-few, column-before-none, same-column, column-from}
 
--- at column k of a row
-pub record Picking (cost column starts numbers heads entries row : List ℕ) (best : BranchColumn) (k : ℕ) : Type 0 where
-  pub some : SomeList starts numbers heads entries row
+-- at place k of some columns
+pub record Picking (l cost column js : List ℕ) (best : BranchColumn) (k : ℕ) : Type 0 where
+  pub kept : Kept l
+  pub inside : InColumns (matrixIn l) js
   pub few : Few best
-  pub left : (p : Instance) → ByColumn p starts numbers → ByRow p starts heads entries → InColumns p row →
-      follow (branchColumn p (view cost column [])) columnPrecedes best (keep (zeroIn cost column) (drop k row)) ≡ columnOf p cost column row
+  pub left :
+      follow (branchColumn (matrixIn l) (view cost column [])) columnPrecedes best (keep (zeroIn cost column) (drop k js)) .column
+      ≡ columnOf (matrixIn l) cost column js
 
-pub picking-start : (cost column starts numbers heads entries row : List ℕ) → SomeList starts numbers heads entries row →
-    Picking cost column starts numbers heads entries row noColumn 0
-picking-start cost column starts numbers heads entries row k = record {
-  some = k;
-  few = record { share-few = omega arith; size-few = omega arith };
-  left = λ p c r n.
-      let s : Node = view cost column [] in
-      let z : ℕ → Bool = zeroIn cost column in
-      follow-all (branchColumn p s) columnPrecedes (columnBefore (sum p) p s) (same-column p s) noColumn (keep z row)
-      (λ j m. column-before-none p starts numbers c j (n j (kept z j row m .1)) s);
-}
+pub picking-start : (l cost column js : List ℕ) → Kept l → InColumns (matrixIn l) js → Picking l cost column js noColumn 0
+picking-start l cost column js h n =
+    let p : Matrix = matrixIn l in
+    let s : Node = view cost column [] in
+    let z : ℕ → Bool = zeroIn cost column in
+    record {
+      kept = h;
+      inside = n;
+      few = record { share-few = omega arith; size-few = omega arith };
+      left =
+          ap (λ (a : BranchColumn). a .column)
+          (follow-all (branchColumn p s) columnPrecedes (columnBefore (sum p) p s) (same-column p s) noColumn (keep z js)
+          (λ j m. column-before-none p (h .small) j (n j (member-of z j js m .1)) s))
+          ∙ column-from p s (keep z js);
+    }
 
 few-better : (b a : BranchColumn) → Few b → Few a → Few (better columnPrecedes b a)
 few-better b a f g = go (columnPrecedes a b)
@@ -47,48 +53,38 @@ few-better b a f g = go (columnPrecedes a b)
     go true = g
     go false = f
 
-module _ (cost column starts numbers heads entries row : List ℕ) (best : BranchColumn) (k : ℕ)
-    (w : Picking cost column starts numbers heads entries row best k) where
-  module _ (inside : k < length row) where
-    -- the column is one of the instance
-    pub picking-column : SomeColumn starts numbers heads entries (getD row k 0)
-    picking-column =
-        let s = w .some in
-        record { p = s .p; by-column = s .by-column; by-row = s .by-row; column = s .listed (getD row k 0) (member-at row k inside) }
+module _ (l cost column js : List ℕ) (best : BranchColumn) (k : ℕ) (w : Picking l cost column js best k) where
+  -- the column that is picked from some that are left
+  abbrev follows : BranchColumn → List ℕ → ℕ
+  follows b ks = follow (branchColumn (matrixIn l) (view cost column [])) columnPrecedes b ks .column
 
-    module _ (found : BranchColumn)
-        (told : (p : Instance) → ByColumn p starts numbers → ByRow p starts heads entries → getD row k 0 < width p →
-        found ≡ branchColumn p (view cost column []) (getD row k 0)) where
+  module _ (inside : k < length js) where
+    -- the column is one of the matrix
+    pub picking-column : HasColumn l (getD js k 0)
+    picking-column = record { kept = w .kept; column = w .inside (getD js k 0) (member-at js k inside) }
+
+    module _ (found : BranchColumn) (told : found ≡ branchColumn (matrixIn l) (view cost column []) (getD js k 0)) where
       pub picking-few : Few found
-      picking-few =
-          let s = picking-column in
-          rw (told (s .p) (s .by-column) (s .by-row) (s .column))
-          (column-few (s .p) starts numbers (s .by-column) (getD row k 0) (s .column) (view cost column []))
+      picking-few = rw told (column-few (matrixIn l) (w .kept .small) (getD js k 0) (picking-column .column) (view cost column []))
 
-      pub picking-zero : zeroIn cost column (getD row k 0) ≡ true → (next : BranchColumn) → next ≡ better columnPrecedes best found →
-          Picking cost column starts numbers heads entries row next (k + 1)
+      pub picking-zero : zeroIn cost column (getD js k 0) ≡ true → (next : BranchColumn) → next ≡ better columnPrecedes best found →
+          Picking l cost column js next (k + 1)
       unfolding carry
       picking-zero h next is = record {
-        some = w .some;
+        kept = w .kept;
+        inside = w .inside;
         few = rw is (few-better best found (w .few) picking-few);
-        left = λ p c r n.
-            let s : Node = view cost column [] in
-            let x : ℕ = getD row k 0 in
-            let e : found ≡ branchColumn p s x = told p c r (n x (member-at row k inside)) in
-            rw (is, e) (sym (ap (follow (branchColumn p s) columnPrecedes best) (drop-in (zeroIn cost column) row k inside h)) ∙ w .left p c r n);
+        left = rw (is, told) (sym (ap (follows best) (drop-in (zeroIn cost column) js k inside h)) ∙ w .left);
       }
 
-    pub picking-other : zeroIn cost column (getD row k 0) ≡ false → Picking cost column starts numbers heads entries row best (k + 1)
+    pub picking-other : zeroIn cost column (getD js k 0) ≡ false → Picking l cost column js best (k + 1)
     picking-other h = record {
-      some = w .some;
+      kept = w .kept;
+      inside = w .inside;
       few = w .few;
-      left = λ p c r n.
-          sym (ap (follow (branchColumn p (view cost column [])) columnPrecedes best) (drop-out (zeroIn cost column) row k inside h))
-          ∙ w .left p c r n;
+      left = sym (ap (follows best) (drop-out (zeroIn cost column) js k inside h)) ∙ w .left;
     }
 
-  pub picking-end : length row ≤ k → (p : Instance) → ByColumn p starts numbers → ByRow p starts heads entries → InColumns p row →
-      best ≡ columnOf p cost column row
+  pub picking-end : length js ≤ k → best .column ≡ columnOf (matrixIn l) cost column js
   unfolding carry
-  picking-end h p c r n =
-      sym (ap (follow (branchColumn p (view cost column [])) columnPrecedes best) (drop-end (zeroIn cost column) row k h)) ∙ w .left p c r n
+  picking-end h = sym (ap (follows best) (drop-end (zeroIn cost column) js k h)) ∙ w .left

@@ -1,3 +1,4 @@
+mod Only
 mod Seen
 mod Products
 mod Sharing

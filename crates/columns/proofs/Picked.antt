@@ -6,18 +6,18 @@ use Prim.Native.Nat.{ℕ}
 use Rattle.node.specs.declared.Node.{Node}
 use Rattle.node.specs.Lists.{pick}
 use Rattle.node.specs.Passes.{bestIn}
-use Rattle.node.specs.Instance.{Instance}
+use Rattle.node.specs.Matrix.{Matrix}
 use Rattle.node.specs.Node.{freeColumns, freeOf}
 use Rattle.rules.specs.Tree.{sum, zeros, sharing, columnBefore}
-use Rattle.candidates.specs.Row.{view}
-use Rattle.columns.specs.Column.{branchColumn, columnFrom, bestColumn}
+use Rattle.node.specs.View.{view}
+use Rattle.columns.specs.Column.{columnFrom, bestColumn}
 
-module _ (p : Instance) (s : Node) where
+module _ (p : Matrix) (s : Node) where
   pub column-of : (i : ℕ) → bestColumn p (view (s .cost) (s .column) []) i ≡ bestColumn p s i
-  unfolding branchColumn columnBefore sharing zeros freeOf freeColumns
+  unfolding columnBefore sharing zeros freeOf freeColumns
   column-of i = refl
 
   pub column-picked : (i j : ℕ) (js : List ℕ) → zeros (sum p) p s i ≡ j ∷ js →
-      bestColumn p s i ≡ branchColumn p s (pick (columnBefore (sum p) p s) j js)
+      bestColumn p s i ≡ pick (columnBefore (sum p) p s) j js
   unfolding bestIn
   column-picked i j js e = ap (columnFrom p s) e

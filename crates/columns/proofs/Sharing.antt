@@ -1,25 +1,27 @@
 -- Columns that share a row with a column: row after row of its body, the columns that are marked are those that cover one of the rows so
 -- far, and each new mark is counted once.
 use mathlib.Core.Path.{_≡_, refl, ap, sym, _∙_}
-use mathlib.Core.Bool.{Bool, true, false, cond, _&&_, _||_, false≢true, and-false, and-true, or-false}
+use mathlib.Core.Bool.{Bool, true, false, cond, _&&_, _||_, false≢true, and-false, or-false}
 use mathlib.Core.List.{List, [], _∷_, _++_}
 use mathlib.Core.Logic.{⊎-elim}
 use Prim.Native.Nat.{ℕ, suc, _+_, _-_, _≤_, _<_}
 use native.Mathlib.Omega.{arith}
-use lib.ListN.{length, getD, take}
+use lib.ListN.{length, getD, take, List·getD-eq-default}
 use lib.Seq.{take-all}
-use lib.Dec.{eqb}
-use borrow.Author.Tests.{le-ltb}
+use lib.Dec.{eqb, ltb}
+use borrow.Author.Tests.{le-ltb, ltb-true, ltb-false}
 use Rattle.node.specs.declared.Node.{Node}
 use Rattle.node.specs.Lists.{keep, member, upto}
-use Rattle.node.specs.Instance.{Instance, width, columns, body, covers, meets}
+use Rattle.node.specs.Matrix.{Matrix, width, columns, body, covers, meets}
 use Rattle.node.specs.Node.{isFree, costAt, freeColumns}
 use Rattle.rules.specs.Tree.{sum, sharing}
-use Rattle.node.proofs.Members.{same-bool, here, there, member-cases, kept, member-keep, member-upto, upto-lt, keep-cong, keep-upto}
+use Rattle.node.proofs.Members.{same-bool, here, there, member-cases, kept, upto-lt, keep-cong, keep-upto}
 use Rattle.node.proofs.Shares.{meets-at, meets-of}
-use Rattle.node.specs.Stored.{Small, ByRow, InRows, SomeBody, IsRow}
+use Rattle.node.specs.Stored.{Small, matrixIn, HasBody, rowColumns}
+use Rattle.node.proofs.Parts.{row-covers}
 use Rattle.node.proofs.Loops.{take-step}
-use Rattle.candidates.specs.Row.{view, zeroIn}
+use Rattle.node.specs.View.{view}
+use Rattle.candidates.specs.Row.{zeroIn}
 use Rattle.candidates.proofs.Keep.{keep-none}
 use Rattle.columns.specs.Column.{common, sharingIn, isSeen, Counted}
 
@@ -66,7 +68,7 @@ common-at (x ∷ xs) ys h = go (member x ys) refl h (λ g. common-at xs ys g)
     go false e g f = let q = f g in (q .0, there (q .0) x xs (q .1), q .2)
 
 -- two columns meet where their bodies have a row in common
-meets-common : (p : Instance) → Small p → (j k : ℕ) → j < width p → meets p j k ≡ common (body p j) (body p k)
+meets-common : (p : Matrix) → Small p → (j k : ℕ) → j < width p → meets p j k ≡ common (body p j) (body p k)
 unfolding covers
 meets-common p s j k l =
     same-bool (meets p j k) (common (body p j) (body p k))
@@ -77,7 +79,7 @@ meets-common p s j k l =
     let e : suc (q .0 - 1) ≡ q .0 = omega (arith, n .0) in
     meets-of p (q .0 - 1) j k (omega (arith, n .0, n .1)) (rw e (q .1)) (rw e (q .2)))
 
-pub sharing-is : (p : Instance) → Small p → (cost column : List ℕ) (j : ℕ) → j < width p →
+pub sharing-is : (p : Matrix) → Small p → (cost column : List ℕ) (j : ℕ) → j < width p →
     sharingIn p (zeroIn cost column) (body p j) ≡ sharing (sum p) p (view cost column []) j
 unfolding sharing freeColumns
 sharing-is p q cost column j l =
@@ -92,86 +94,80 @@ sharing-is p q cost column j l =
     go true b c = refl
     go false b c = refl
 
--- with the first k rows of a body seen
-pub record Sharing (cost column heads entries rs seen : List ℕ) (count k : ℕ) : Type 0 where
-  pub some : SomeBody heads entries rs
-  pub within : k ≤ length rs
-  pub long : length seen ≡ 256
-  pub marks : (p : Instance) (starts : List ℕ) → ByRow p starts heads entries → InRows p rs →
-      (j : ℕ) → j < width p → isSeen seen j ≡ (zeroIn cost column j && common (take k rs) (body p j))
-  pub counts : (p : Instance) (starts : List ℕ) → ByRow p starts heads entries → InRows p rs → count ≡ length (keep (isSeen seen) (columns p))
-
 keep-nothing : (t : ℕ → Bool) (n : ℕ) → ((k : ℕ) → k < n → t k ≡ false) → length (keep t (upto n)) ≡ 0
 keep-nothing t n h = ap length (keep-none t (upto n) (λ k m. h k (upto-lt n k m)))
 
-pub sharing-start : (cost column heads entries rs seen : List ℕ) → SomeBody heads entries rs → length seen ≡ 256 →
-    ((k : ℕ) → k < 256 → getD seen k 0 ≡ 0) → Sharing cost column heads entries rs seen 0 0
+-- with the first k rows of a body seen
+pub record Sharing (l cost column rs seen : List ℕ) (count k : ℕ) : Type 0 where
+  pub has : HasBody l rs
+  pub within : k ≤ length rs
+  pub long : length seen ≡ 256
+  pub marks : (j : ℕ) → isSeen seen j ≡ (zeroIn cost column j && common (take k rs) (body (matrixIn l) j))
+  pub counts : count ≡ length (keep (isSeen seen) (columns (matrixIn l)))
+
+pub sharing-start : (l cost column rs seen : List ℕ) → HasBody l rs → length seen ≡ 256 → ((k : ℕ) → k < 256 → getD seen k 0 ≡ 0) →
+    Sharing l cost column rs seen 0 0
 unfolding common
-sharing-start cost column heads entries rs seen s l z =
-    let none : (j : ℕ) → j < 256 → isSeen seen j ≡ false = λ j h. le-ltb 0 (getD seen j 0) (omega (arith, z j h)) in
+sharing-start l cost column rs seen h e z =
+    let none : (j : ℕ) → isSeen seen j ≡ false = λ j. le-ltb 0 (getD seen j 0) (omega (arith, zero-at j)) in
     record {
-      some = s;
+      has = h;
       within = omega arith;
-      long = l;
-      marks = λ p starts k n j h. none j (omega (arith, k .small .fits .wide)) ∙ sym (and-false (zeroIn cost column j));
-      counts = λ p starts k n. sym (keep-nothing (isSeen seen) (width p) (λ j h. none j (omega (arith, k .small .fits .wide))));
+      long = e;
+      marks = λ j. none j ∙ sym (and-false (zeroIn cost column j));
+      counts = sym (keep-nothing (isSeen seen) (width (matrixIn l)) (λ j b. none j));
     }
+  where
+    zero-at : (j : ℕ) → getD seen j 0 ≡ 0
+    zero-at j = go (ltb j 256) refl
+      where
+        go : (b : Bool) → ltb j 256 ≡ b → getD seen j 0 ≡ 0
+        go true q = z j (ltb-true j 256 q)
+        go false q = List·getD-eq-default seen 0 (omega (arith, ltb-false j 256 q))
 
-module _ (cost column heads entries rs seen : List ℕ) (count k : ℕ) (w : Sharing cost column heads entries rs seen count k) where
-  module _ (inside : k < length rs) where
-    abbrev row : ℕ
-    row = getD rs k 0 - 1
+module _ (l cost column rs seen : List ℕ) (count k : ℕ) (w : Sharing l cost column rs seen count k) (inside : k < length rs) where
+  abbrev p : Matrix
+  p = matrixIn l
 
-    -- the row's columns
-    module _ (js : List ℕ) (is : IsRow heads entries row js) (after : List ℕ) (r : ℕ)
-        (told : Counted (zeroIn cost column) js seen after r) where
-      counts-next : (p : Instance) (starts : List ℕ) → ByRow p starts heads entries → InRows p rs →
-          count + r ≡ length (keep (isSeen after) (columns p))
-      counts-next p starts h n =
-          let l : row < p .rows = omega (arith, n k inside .0, n k inside .1) in
-          omega (
-            arith,
-            w .counts p starts h n,
-            told .counts (width p) (λ j m.
-                upto-lt (width p) j (kept (covers p row) j (columns p) (sym (ap (member j) (is p starts h l)) ∙ m) .1)),
-          )
+  abbrev row : ℕ
+  row = getD rs k 0 - 1
 
-      -- the count stays small
-      pub sharing-few : count + r < 4294967296
-      sharing-few =
-          let s = w .some in
-          omega (
-            arith,
-            counts-next (s .p) (s .starts) (s .kept) (s .numbered),
-            keep-upto (isSeen after) (width (s .p)),
-            s .kept .small .fits .wide,
-          )
+  -- the row's columns
+  module _ (js : List ℕ) (is : js ≡ rowColumns p row) (after : List ℕ) (r : ℕ) (told : Counted (zeroIn cost column) js seen after r) where
+    counts-next : count + r ≡ length (keep (isSeen after) (columns p))
+    counts-next =
+        omega (
+          arith,
+          w .counts,
+          told .counts (width p) (λ j m. upto-lt (width p) j (kept (covers p row) j (columns p) (sym (ap (member j) is) ∙ m) .1)),
+        )
 
-      pub sharing-next : Sharing cost column heads entries rs after (count + r) (k + 1)
-      unfolding covers
-      sharing-next = record {
-        some = w .some;
-        within = omega arith;
-        long = told .long ∙ w .long;
-        marks = λ p starts h n j b.
-            let l : row < p .rows = omega (arith, n k inside .0, n k inside .1) in
-            let e : suc row ≡ getD rs k 0 = omega (arith, n k inside .0) in
-            let m : member j js ≡ member (getD rs k 0) (body p j) =
-            ap (member j) (is p starts h l) ∙ member-keep (covers p row) j (columns p)
-            ∙ rw (member-upto (width p) j b, e) (and-true (member (getD rs k 0) (body p j))) in
-            told .seen j
-            ∙ rw (w .marks p starts h n j b, m, take-step rs k inside, common-more (take k rs) (getD rs k 0) (body p j))
-            (go (zeroIn cost column j) (common (take k rs) (body p j)) (member (getD rs k 0) (body p j)));
-        counts = counts-next;
-      }
-        where
-          go : (a b c : Bool) → ((a && b) || (a && c)) ≡ (a && (b || c))
-          go true b c = refl
-          go false b c = refl
+    -- the count stays small
+    pub sharing-few : count + r < 4294967296
+    sharing-few = omega (arith, counts-next, keep-upto (isSeen after) (width p), w .has .kept .small .fits .wide)
 
-  pub sharing-end : length rs ≤ k → (p : Instance) (starts : List ℕ) → ByRow p starts heads entries → InRows p rs →
-      count ≡ sharingIn p (zeroIn cost column) rs
-  sharing-end h p starts b n =
-      w .counts p starts b n
-      ∙ ap length (keep-cong (isSeen seen) (λ j. zeroIn cost column j && common rs (body p j)) (columns p)
-      (λ j m. rw (take-all k rs h) at (w .marks p starts b n j (upto-lt (width p) j m))))
+    pub sharing-next : Sharing l cost column rs after (count + r) (k + 1)
+    unfolding covers
+    sharing-next = record {
+      has = w .has;
+      within = omega arith;
+      long = told .long ∙ w .long;
+      marks = λ j.
+          let e : suc row ≡ getD rs k 0 = omega (arith, w .has .numbered k inside .0) in
+          let m : member j js ≡ member (getD rs k 0) (body p j) = ap (member j) is ∙ row-covers p row j ∙ rw e in
+          told .seen j
+          ∙ rw (w .marks j, m, take-step rs k inside, common-more (take k rs) (getD rs k 0) (body p j))
+          (go (zeroIn cost column j) (common (take k rs) (body p j)) (member (getD rs k 0) (body p j)));
+      counts = counts-next;
+    }
+      where
+        go : (a b c : Bool) → ((a && b) || (a && c)) ≡ (a && (b || c))
+        go true b c = refl
+        go false b c = refl
+
+pub sharing-end : (l cost column rs seen : List ℕ) (count k : ℕ) → Sharing l cost column rs seen count k → length rs ≤ k →
+    count ≡ sharingIn (matrixIn l) (zeroIn cost column) rs
+sharing-end l cost column rs seen count k w h =
+    w .counts
+    ∙ ap length (keep-cong (isSeen seen) (λ j. zeroIn cost column j && common rs (body (matrixIn l) j)) (columns (matrixIn l))
+    (λ j m. rw (take-all k rs h) at (w .marks j)))

@@ -8,14 +8,14 @@ use lib.Dec.{ltb}
 use Rattle.node.specs.declared.Node.{Node}
 use Rattle.node.specs.Lists.{keep, member, upto}
 use Rattle.node.specs.Passes.{bestIn}
-use Rattle.node.specs.Instance.{Instance, width, columns, body, span}
+use Rattle.node.specs.Matrix.{Matrix, width, columns, body, span}
 use Rattle.rules.specs.Tree.{sum, zeros, sharing, columnBefore}
-use Rattle.node.specs.Stored.{ByColumn, ByRow}
-use Rattle.candidates.specs.Row.{view, zeroIn}
+use Rattle.node.specs.View.{view}
+use Rattle.candidates.specs.Row.{zeroIn}
 use Rattle.columns.specs.declared.BranchColumn.{BranchColumn}
 
 -- what the choice looks at in column j
-unfoldable pub branchColumn : Instance → Node → ℕ → BranchColumn
+unfoldable pub branchColumn : Matrix → Node → ℕ → BranchColumn
 branchColumn p s j = record { share = sharing (sum p) p s j; size = span p j; column = j }
 
 -- the lesser C / s, by products
@@ -26,16 +26,23 @@ columnPrecedes a b = ltb (a .share * b .size) (b .share * a .size)
 abbrev pub noColumn : BranchColumn
 noColumn = record { share = 1; size = 0; column = 0 }
 
-abbrev pub columnFrom : Instance → Node → List ℕ → BranchColumn
-columnFrom p s js = bestIn (branchColumn p s) (columnBefore (sum p) p s) noColumn js
+-- of some columns the one that no other comes before, and 0 where there are none
+abbrev pub columnFrom : Matrix → Node → List ℕ → ℕ
+columnFrom p s js = bestIn (λ j. j) (columnBefore (sum p) p s) 0 js
 
 -- the column to branch on in row i
-abbrev pub bestColumn : Instance → Node → ℕ → BranchColumn
+abbrev pub bestColumn : Matrix → Node → ℕ → ℕ
 bestColumn p s i = columnFrom p s (zeros (sum p) p s i)
 
 -- of the columns given
-abbrev pub columnOf : Instance → List ℕ → List ℕ → List ℕ → BranchColumn
+abbrev pub columnOf : Matrix → List ℕ → List ℕ → List ℕ → ℕ
 columnOf p cost column js = columnFrom p (view cost column []) (keep (zeroIn cost column) js)
+
+-- the one element of a list, and 256 where there is none or more than one
+unfoldable pub only : List ℕ → ℕ
+only [] = 256
+only (j ∷ []) = j
+only (j ∷ (k ∷ ks)) = 256
 
 -- two lists have a member in common
 unfoldable pub common : List ℕ → List ℕ → Bool
@@ -43,7 +50,7 @@ common [] ys = false
 common (x ∷ xs) ys = member x ys || common xs ys
 
 -- how many columns pass a test and cover one of the rows given
-abbrev pub sharingIn : Instance → (ℕ → Bool) → List ℕ → ℕ
+abbrev pub sharingIn : Matrix → (ℕ → Bool) → List ℕ → ℕ
 sharingIn p z rs = length (keep (λ k. z k && common rs (body p k)) (columns p))
 
 -- column k is marked
@@ -57,30 +64,11 @@ pub record Counted (z : ℕ → Bool) (row before after : List ℕ) (count : ℕ
   pub counts : (n : ℕ) → ((k : ℕ) → member k row ≡ true → k < n) →
       count + length (keep (isSeen before) (upto n)) ≡ length (keep (isSeen after) (upto n))
 
--- columns of an instance
-abbrev pub InColumns : Instance → List ℕ → Type 0
+-- columns of a matrix
+abbrev pub InColumns : Matrix → List ℕ → Type 0
 InColumns p js = (k : ℕ) → member k js ≡ true → k < width p
 
 -- the products of such numbers are small
 pub record Few (a : BranchColumn) : Type 0 where
   pub share-few : a .share ≤ 256
   pub size-few : a .size ≤ 4096
-
--- some instance is kept so, with the column, the columns or the row given
-pub record SomeColumn (starts numbers heads entries : List ℕ) (j : ℕ) : Type 0 where
-  pub p : Instance
-  pub by-column : ByColumn p starts numbers
-  pub by-row : ByRow p starts heads entries
-  pub column : j < width p
-
-pub record SomeList (starts numbers heads entries js : List ℕ) : Type 0 where
-  pub p : Instance
-  pub by-column : ByColumn p starts numbers
-  pub by-row : ByRow p starts heads entries
-  pub listed : InColumns p js
-
-pub record SomeBoth (starts numbers heads entries : List ℕ) (i : ℕ) : Type 0 where
-  pub p : Instance
-  pub by-column : ByColumn p starts numbers
-  pub by-row : ByRow p starts heads entries
-  pub row : i < p .rows

@@ -3,17 +3,38 @@ use candidates::is_zero;
 use node::column_part;
 use node::row_part;
 ghost use mathlib.Core.Path.{_≡_};
-ghost use mathlib.Core.List.{List, []};
+ghost use mathlib.Core.List.{[]};
 ghost use Prim.Native.Nat.{ℕ, _≤_, _<_};
 ghost use lib.ListN.{length, getD};
-ghost use Rattle.node.specs.Instance.{Instance, width};
-ghost use Rattle.node.specs.Stored.{ByColumn, ByRow, InRows, SomeBody};
-ghost use Rattle.candidates.specs.Row.{view, zeroIn};
-ghost use Rattle.columns.specs.Column.{Counted, InColumns, sharingIn, branchColumn, columnPrecedes, columnOf, bestColumn, Few, SomeColumn, SomeList, SomeBoth};
+ghost use Rattle.node.specs.Lists.{keep};
+ghost use Rattle.node.specs.Stored.{matrixIn, Kept, HasRow, HasColumn, HasBody, Columns};
+ghost use Rattle.node.specs.View.{view};
+ghost use Rattle.candidates.specs.Row.{zeroIn};
+ghost use Rattle.columns.specs.Column.{only, Counted, InColumns, sharingIn, branchColumn, columnPrecedes, columnOf, bestColumn, Few};
+
+// The one of some columns that is free and at cost 0, and 256 where none is or more than one.
+fn only_zero(cost: &[u32; 256], column: &[u8; 256], columns: &[u16]) -> usize
+    requires { ⌜ Columns (now columns) ⌝ }
+    ensures { λ r. ⌜ r ≡ only (keep (zeroIn (now (cost .entry)) (now (column .entry))) (now (columns .entry))) ⌝ }
+{
+    let mut found = 256;
+    let mut k = 0;
+    while k < columns.len() {
+        let j = columns[k] as usize;
+        k += 1;
+        if is_zero(column[j], cost[j]) {
+            if found < 256 {
+                return 256;
+            }
+            found = j;
+        }
+    }
+    found
+}
 
 // Marks the free columns of a row at cost 0 as seen, and counts those that were not.
-fn mark_row(cost: &[u32; 256], column: &[u8; 256], row: &[u8], seen: &mut [u8; 256]) -> u32
-    requires { ⌜ (length (now row) ≤ 4096) × (length (now seen) ≡ 256) ⌝ }
+fn mark_row(cost: &[u32; 256], column: &[u8; 256], row: &[u16], seen: &mut [u8; 256]) -> u32
+    requires { ⌜ Columns (now row) × (length (now row) ≤ 4096) × (length (now seen) ≡ 256) ⌝ }
     ensures { λ r. ⌜ Counted (zeroIn (now (cost .entry)) (now (column .entry))) (now (row .entry)) (now (seen .entry)) (now (seen .exit)) r ⌝ }
 {
     let mut count = 0;
@@ -39,15 +60,9 @@ fn none_seen() -> [u8; 256]
 }
 
 // How many free columns at cost 0 cover one of the rows of a body, each counted once.
-fn count_sharing(
-    cost: &[u32; 256],
-    column: &[u8; 256],
-    heads: &[u16; 65],
-    entries: &[u8],
-    body: &[u8],
-) -> u32
-    requires { ⌜ SomeBody (now heads) (now entries) (now body) ⌝ }
-    ensures { λ r. ⌜ ((p : Instance) (starts : List ℕ) → ByRow p starts (now (heads .entry)) (now (entries .entry)) → InRows p (now (body .entry)) → r ≡ sharingIn p (zeroIn (now (cost .entry)) (now (column .entry))) (now (body .entry))) ⌝ }
+fn count_sharing(cost: &[u32; 256], column: &[u8; 256], matrix: &[u16], body: &[u16]) -> u32
+    requires { ⌜ HasBody (now matrix) (now body) ⌝ }
+    ensures { λ r. ⌜ r ≡ sharingIn (matrixIn (now (matrix .entry))) (zeroIn (now (cost .entry)) (now (column .entry))) (now (body .entry)) ⌝ }
 {
     let mut seen = none_seen();
     let mut count = 0;
@@ -55,7 +70,7 @@ fn count_sharing(
     while k < body.len() {
         let i = body[k] as usize - 1;
         k += 1;
-        let row = row_part(heads, entries, i);
+        let row = row_part(matrix, i);
         count += mark_row(cost, column, row, &mut seen);
     }
     count
@@ -68,28 +83,26 @@ pub struct BranchColumn {
     // How many rows it covers (01: s).
     pub size: u32,
     // The column, from 0.
-    pub column: u32,
+    pub column: usize,
 }
 
 // What the choice looks at in a column of a matrix.
 fn column_statistics(
     cost: &[u32; 256],
     column: &[u8; 256],
-    starts: &[u16; 257],
-    numbers: &[u8],
-    heads: &[u16; 65],
-    entries: &[u8],
+    matrix: &[u16],
     j: usize,
 ) -> BranchColumn
-    requires { ⌜ SomeColumn (now starts) (now numbers) (now heads) (now entries) j ⌝ }
-    ensures { λ r. ⌜ ((p : Instance) → ByColumn p (now (starts .entry)) (now (numbers .entry)) → ByRow p (now (starts .entry)) (now (heads .entry)) (now (entries .entry)) → j < width p → r ≡ branchColumn p (view (now (cost .entry)) (now (column .entry)) []) j) ⌝ }
+    requires { ⌜ HasColumn (now matrix) j ⌝ }
+    ensures { λ r. ⌜ r ≡ branchColumn (matrixIn (now (matrix .entry))) (view (now (cost .entry)) (now (column .entry)) []) j ⌝ }
 {
-    let body = column_part(starts, numbers, j);
-    let share = count_sharing(cost, column, heads, entries, body);
+    let body = column_part(matrix, j);
+    let share = count_sharing(cost, column, matrix, body);
+    let size = body.len() as u32;
     BranchColumn {
         share: share,
-        size: body.len() as u32,
-        column: j as u32,
+        size: size,
+        column: j,
     }
 }
 
@@ -101,18 +114,10 @@ pub fn column_precedes(a: BranchColumn, b: BranchColumn) -> bool
     a.share * b.size < b.share * a.size
 }
 
-// The column to branch on among the columns of a row.
-fn column_in(
-    cost: &[u32; 256],
-    column: &[u8; 256],
-    starts: &[u16; 257],
-    numbers: &[u8],
-    heads: &[u16; 65],
-    entries: &[u8],
-    row: &[u8],
-) -> BranchColumn
-    requires { ⌜ SomeList (now starts) (now numbers) (now heads) (now entries) (now row) ⌝ }
-    ensures { λ r. ⌜ ((p : Instance) → ByColumn p (now (starts .entry)) (now (numbers .entry)) → ByRow p (now (starts .entry)) (now (heads .entry)) (now (entries .entry)) → InColumns p (now (row .entry)) → r ≡ columnOf p (now (cost .entry)) (now (column .entry)) (now (row .entry))) ⌝ }
+// The column to branch on among some columns. Where none of them is free and at cost 0 the size is 0, which no column has.
+fn column_in(cost: &[u32; 256], column: &[u8; 256], matrix: &[u16], columns: &[u16]) -> usize
+    requires { ⌜ Kept (now matrix) × InColumns (matrixIn (now matrix)) (now columns) ⌝ }
+    ensures { λ r. ⌜ r ≡ columnOf (matrixIn (now (matrix .entry))) (now (cost .entry)) (now (column .entry)) (now (columns .entry)) ⌝ }
 {
     let mut best = BranchColumn {
         share: 1,
@@ -120,32 +125,34 @@ fn column_in(
         column: 0,
     };
     let mut k = 0;
-    while k < row.len() {
-        let j = row[k] as usize;
+    while k < columns.len() {
+        let j = columns[k] as usize;
         k += 1;
         if is_zero(column[j], cost[j]) {
-            let found = column_statistics(cost, column, starts, numbers, heads, entries, j);
+            let found = column_statistics(cost, column, matrix, j);
             if column_precedes(found, best) {
                 best = found;
             }
         }
     }
-    best
+    best.column
 }
 
-// The column to branch on, of the free columns of row i at cost 0. Where there are none its size is 0, which no column has.
+// The column to branch on, of the free columns of row i at cost 0, and 0 where there are none. Where there is just one it is
+// that one, and nothing is counted.
 pub fn branch_column<'a>(
     cost: &'a [u32; 256],
     column: &'a [u8; 256],
-    starts: &[u16; 257],
-    numbers: &[u8],
-    heads: &[u16; 65],
-    entries: &[u8],
+    matrix: &[u16],
     i: usize,
-) -> BranchColumn
-    requires { ⌜ SomeBoth (now starts) (now numbers) (now heads) (now entries) i ⌝ }
-    ensures { λ r. ⌜ ((p : Instance) → ByColumn p (now (starts .entry)) (now (numbers .entry)) → ByRow p (now (starts .entry)) (now (heads .entry)) (now (entries .entry)) → i < p .rows → r ≡ bestColumn p (view (now (cost .entry)) (now (column .entry)) []) i) ⌝ }
+) -> usize
+    requires { ⌜ HasRow (now matrix) i ⌝ }
+    ensures { λ r. ⌜ r ≡ bestColumn (matrixIn (now (matrix .entry))) (view (now (cost .entry)) (now (column .entry)) []) i ⌝ }
 {
-    let row = row_part(heads, entries, i);
-    column_in(cost, column, starts, numbers, heads, entries, row)
+    let row = row_part(matrix, i);
+    let single = only_zero(cost, column, row);
+    if single < 256 {
+        return single;
+    }
+    column_in(cost, column, matrix, row)
 }

@@ -7,10 +7,11 @@ use native.Mathlib.Omega.{arith}
 use lib.ListN.{length, getD, take, drop, length-map, List·getD-map}
 use lib.Seq.{drop-drop}
 use Rattle.refusals.specs.Refusals.{fine}
+use Rattle.node.specs.Matrix.{width}
 use Rattle.dutyfile.specs.declared.Entry.{Entry}
-use Rattle.dutyfile.specs.File.{rowsIn, columnsIn, bodiesAt, entryOf, entries, costOf, sizeOf, parse, sum, bodies}
+use Rattle.dutyfile.specs.File.{rowsIn, columnsIn, bodiesAt, entryOf, entries, costOf, sizeOf, parse, sum, bodies, instance}
 use Rattle.dutyfile.specs.Faults.{entriesFault}
-use Rattle.dutyfile.proofs.Entries.{length-entries, entries-at}
+use Rattle.dutyfile.proofs.Entries.{length-entries, length-lengths, entries-at}
 use Rattle.dutyfile.proofs.Facts.{Within, Column, column-fine, entry-fine, Walked}
 
 -- the rows of the first j bodies
@@ -39,6 +40,10 @@ pub length-bodies : (ls rs : List ℕ) → length (bodies ls rs) ≡ length ls
 unfolding bodies
 length-bodies [] rs = refl
 length-bodies (l ∷ ls) rs = ap suc (length-bodies ls (drop l rs))
+
+pub file-width : (s : List ℕ) → width (instance (parse s) .matrix) ≡ columnsIn s
+unfolding instance
+file-width s = length-bodies (parse s .lengths) (parse s .numbers) ∙ length-lengths s
 
 -- body j
 pub body-at : (ls rs : List ℕ) (j : ℕ) → j < length ls → getD (bodies ls rs) j [] ≡ take (getD ls j 0) (drop (sum (take j ls)) rs)

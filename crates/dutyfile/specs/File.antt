@@ -3,7 +3,7 @@ use mathlib.Core.List.{List, [], _∷_, _++_, map}
 use Prim.Native.Nat.{ℕ, zero, suc, _+_, _*_}
 use lib.ListN.{length, take, drop}
 use Rattle.endian.specs.Bytes.{at16, at32, bytes16, bytes32}
-use Rattle.node.specs.Instance.{Instance}
+use Rattle.node.specs.Matrix.{Instance}
 use Rattle.dutyfile.specs.declared.Entry.{Entry}
 use Rattle.dutyfile.specs.declared.Shape.{Shape}
 
@@ -91,7 +91,7 @@ bodies (l ∷ ls) rs = take l rs ∷ bodies ls (drop l rs)
 
 -- the set partitioning instance that lists state
 unfoldable pub instance : Lists → Instance
-instance d = record { rows = d .rows; costs = d .costs; bodies = bodies (d .lengths) (d .numbers) }
+instance d = record { matrix = record { rows = d .rows; bodies = bodies (d .lengths) (d .numbers) }; costs = d .costs }
 
 -- what the reader gives: rows m, columns n, and row numbers t in all
 unfoldable pub shape : List ℕ → Shape

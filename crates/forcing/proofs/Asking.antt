@@ -2,7 +2,7 @@
 -- with just one.
 use mathlib.Core.Path.{_≡_, refl, ap, sym, _∙_}
 use mathlib.Core.List.{List, [], _∷_}
-use Prim.Native.Nat.{ℕ, _+_, _≤_, _<_}
+use Prim.Native.Nat.{ℕ, _+_, _<_}
 use native.Mathlib.Omega.{arith}
 use lib.ListN.{length, getD}
 use lib.Dec.{eqb}
@@ -10,25 +10,21 @@ use borrow.Author.Tests.{eq-eqb, ne-eqb}
 use Rattle.node.specs.declared.Node.{Node}
 use Rattle.node.specs.Lists.{keep, first}
 use Rattle.node.specs.Passes.{carry}
-use Rattle.node.specs.Instance.{Instance}
+use Rattle.node.specs.Matrix.{Matrix}
 use Rattle.node.specs.Node.{freeOf, openRows}
-use Rattle.node.specs.Stored.{rowColumns, ByRow, SomeRow, SomeRows}
-use Rattle.node.proofs.Passes.{openFrom, open-all, carry-open, carry-closed, carry-none}
+use Rattle.node.specs.Stored.{matrixIn, Kept, rowColumns}
+use Rattle.node.proofs.Passes.{Passing, passing-start, passing-open}
 use Rattle.node.proofs.Parts.{free-row}
 use Rattle.rules.specs.declared.Asked.{Asked}
 use Rattle.rules.specs.declared.Asked.the-variants.{Dead, Take, Settled}
 use Rattle.rules.specs.Force.{rowsWith, askedBy, asked}
 use Rattle.forcing.specs.Rows.{freeIn, asksBy, sooner}
 
-pub row-asks-is : (p : Instance) (row column : List ℕ) (s : Node) (i : ℕ) → s .column ≡ column → row ≡ rowColumns p i →
-    asksBy (freeIn column row) ≡ asksBy (freeOf p s i)
-row-asks-is p row column s i e is = ap asksBy (rw (is, ← e) (sym (free-row p s i)))
-
 -- what was asked so far, and then some rows one after another
-abbrev pub follow : Instance → Node → Asked → List ℕ → Asked
+abbrev pub follow : Matrix → Node → Asked → List ℕ → Asked
 follow p s a is = carry (λ b i. sooner b (asksBy (freeOf p s i))) a is
 
-module _ (p : Instance) (s : Node) where
+module _ (p : Matrix) (s : Node) where
   -- the rows with n free columns
   with-free : ℕ → List ℕ → List ℕ
   with-free n xs = keep (λ i. eqb (length (freeOf p s i)) n) xs
@@ -87,51 +83,18 @@ sooner-dead Dead = refl
 sooner-dead (Take j) = refl
 sooner-dead Settled = refl
 
--- what row i asks, for every instance that is kept so
-abbrev pub Tells : List ℕ → List ℕ → List ℕ → ℕ → Asked → Type 0
-Tells heads entries column i next =
-    (p : Instance) (starts : List ℕ) (s : Node) → s .column ≡ column → ByRow p starts heads entries → i < p .rows → next ≡ asksBy (freeOf p s i)
-
 -- at row i
-pub record Asking (column row : List ℕ) (rows : ℕ) (heads entries : List ℕ) (found : Asked) (i : ℕ) : Type 0 where
-  pub some : SomeRows rows heads entries
-  pub within : i ≤ rows
-  pub left : (p : Instance) (starts : List ℕ) (s : Node) → s .column ≡ column → s .row ≡ row → rows ≡ p .rows → ByRow p starts heads entries →
-      follow p s found (openFrom rows s i) ≡ asked p s
+abbrev pub Asking : List ℕ → Node → ℕ → Asked → ℕ → Type 0
+Asking l s = Passing (λ b x. sooner b (asksBy (freeOf (matrixIn l) s x))) (asked (matrixIn l) s) l s
 
-pub asking-start : (column row : List ℕ) (rows : ℕ) (heads entries : List ℕ) → SomeRows rows heads entries →
-    Asking column row rows heads entries Settled 0
-asking-start column row rows heads entries k =
-    record { some = k; within = omega arith; left = λ p starts s ce re e h. rw (open-all p s rows e) (asked-is p s) }
+pub asking-start : (l : List ℕ) (s : Node) (rows : ℕ) → Kept l → rows ≡ matrixIn l .rows → Asking l s rows Settled 0
+asking-start l s rows k e = passing-start _ _ l s rows Settled k e (asked-is (matrixIn l) s)
 
-module _ (column row : List ℕ) (rows : ℕ) (heads entries : List ℕ) (found : Asked) (i : ℕ) (w : Asking column row rows heads entries found i) where
-  module _ (inside : i < rows) where
-    pub asking-row : SomeRow heads entries i
-    asking-row = let k = w .some in record { p = k .p; starts = k .starts; kept = k .kept; row = omega (arith, k .rows-is) }
+module _ (l : List ℕ) (s : Node) (rows : ℕ) (found : Asked) (i : ℕ) (w : Asking l s rows found i) (inside : i < rows) (h : getD (s .row) i 0 ≡ 1)
+    (next : Asked) (told : next ≡ asksBy (freeIn (s .column) (rowColumns (matrixIn l) i))) where
+  pub asking-open : (out : Asked) → out ≡ sooner found next → Asking l s rows out (i + 1)
+  asking-open out is = passing-open w inside h out (is ∙ rw (told, ← free-row (matrixIn l) s i))
 
-    module _ (h : getD row i 0 ≡ 1) (next : Asked) (told : Tells heads entries column i next) where
-      pub asking-open : (out : Asked) → out ≡ sooner found next → Asking column row rows heads entries out (i + 1)
-      asking-open out is = record {
-        some = w .some;
-        within = omega arith;
-        left = λ p starts s ce re e k.
-            rw (is, told p starts s ce k (omega arith)) (carry-open _ rows s found i inside (rw re h) ∙ w .left p starts s ce re e k);
-      }
-
-      -- a row without a free column decides
-      pub asking-dead : next ≡ Dead → (p : Instance) (starts : List ℕ) (s : Node) → s .column ≡ column → s .row ≡ row → rows ≡ p .rows →
-          ByRow p starts heads entries → Dead ≡ asked p s
-      asking-dead is p starts s ce re e k =
-          sym (follow-dead p s (openFrom rows s (i + 1)))
-          ∙ asking-open Dead (sym (ap (sooner found) is ∙ sooner-dead found)) .left p starts s ce re e k
-
-    pub asking-closed : (getD row i 0 ≡ 1 → ⊥) → Asking column row rows heads entries found (i + 1)
-    asking-closed h = record {
-      some = w .some;
-      within = omega arith;
-      left = λ p starts s ce re e k. carry-closed _ rows s found i inside (rw re h) ∙ w .left p starts s ce re e k;
-    }
-
-  pub asking-end : rows ≤ i → (p : Instance) (starts : List ℕ) (s : Node) → s .column ≡ column → s .row ≡ row → rows ≡ p .rows →
-      ByRow p starts heads entries → found ≡ asked p s
-  asking-end h p starts s ce re e k = carry-none _ rows s found i h ∙ w .left p starts s ce re e k
+  -- a row without a free column decides
+  pub asking-dead : next ≡ Dead → Dead ≡ asked (matrixIn l) s
+  asking-dead is = sym (follow-dead (matrixIn l) s _) ∙ asking-open Dead (sym (ap (sooner found) is ∙ sooner-dead found)) .left

@@ -1,24 +1,25 @@
 // Forcing (01, Forcing): what a row asks by its free columns, what the open rows ask together, and the columns taken until
 // nothing is forced.
 use node::Node;
+use node::row_count;
 use node::row_part;
 use rules::Asked;
 use rules::Forced;
 ghost use mathlib.Core.Path.{_≡_};
-ghost use mathlib.Core.List.{List};
-ghost use Prim.Native.Nat.{ℕ, _<_, min};
+ghost use mathlib.Core.List.{[]};
+ghost use Prim.Native.Nat.{min};
 ghost use lib.ListN.{length};
-ghost use Rattle.node.specs.declared.Node.{Node};
 ghost use Rattle.node.specs.Lists.{first};
-ghost use Rattle.node.specs.Instance.{Instance};
-ghost use Rattle.node.specs.Node.{freeOf};
-ghost use Rattle.node.specs.Stored.{ByColumn, ByRow, SomeRow, SomeRows};
+ghost use Rattle.node.specs.View.{view};
+ghost use Rattle.node.specs.Stored.{matrixIn, Kept, HasRow, Columns, rowColumns};
 ghost use Rattle.rules.specs.Force.{asked, force};
 ghost use Rattle.rules.specs.Tree.{joined};
-ghost use Rattle.forcing.specs.Rows.{freeIn, asksBy, sooner, Forcible};
+ghost use Rattle.rules.proofs.Costs.{Workable};
+ghost use Rattle.forcing.specs.Rows.{freeIn, asksBy, sooner};
 
 // How many of some columns are free, counted up to 2.
-fn free_count(column: &[u8; 256], columns: &[u8]) -> usize
+fn free_count(column: &[u8; 256], columns: &[u16]) -> usize
+    requires { ⌜ Columns (now columns) ⌝ }
     ensures { λ r. ⌜ r ≡ min (length (freeIn (now (column .entry)) (now (columns .entry)))) 2 ⌝ }
 {
     let mut n = 0;
@@ -37,7 +38,8 @@ fn free_count(column: &[u8; 256], columns: &[u8]) -> usize
 }
 
 // The first of some columns that is free, and 0 where none is.
-fn first_free(column: &[u8; 256], columns: &[u8]) -> usize
+fn first_free(column: &[u8; 256], columns: &[u16]) -> usize
+    requires { ⌜ Columns (now columns) ⌝ }
     ensures { λ r. ⌜ r ≡ first (freeIn (now (column .entry)) (now (columns .entry))) ⌝ }
 {
     let mut k = 0;
@@ -52,7 +54,8 @@ fn first_free(column: &[u8; 256], columns: &[u8]) -> usize
 }
 
 // What a row with these columns asks (01: no free duty, exactly one, or two and more).
-fn columns_ask(column: &[u8; 256], columns: &[u8]) -> Asked
+fn columns_ask(column: &[u8; 256], columns: &[u16]) -> Asked
+    requires { ⌜ Columns (now columns) ⌝ }
     ensures { λ r. ⌜ r ≡ asksBy (freeIn (now (column .entry)) (now (columns .entry))) ⌝ }
 {
     let n = free_count(column, columns);
@@ -68,11 +71,11 @@ fn columns_ask(column: &[u8; 256], columns: &[u8]) -> Asked
 }
 
 // What row i of a matrix asks.
-fn row_asks(column: &[u8; 256], heads: &[u16; 65], entries: &[u8], i: usize) -> Asked
-    requires { ⌜ SomeRow (now heads) (now entries) i ⌝ }
-    ensures { λ r. ⌜ ((p : Instance) (starts : List ℕ) (s : Node) → s .column ≡ now (column .entry) → ByRow p starts (now (heads .entry)) (now (entries .entry)) → i < p .rows → r ≡ asksBy (freeOf p s i)) ⌝ }
+fn row_asks(column: &[u8; 256], matrix: &[u16], i: usize) -> Asked
+    requires { ⌜ HasRow (now matrix) i ⌝ }
+    ensures { λ r. ⌜ r ≡ asksBy (freeIn (now (column .entry)) (rowColumns (matrixIn (now (matrix .entry))) i)) ⌝ }
 {
-    let row = row_part(heads, entries, i);
+    let row = row_part(matrix, i);
     columns_ask(column, row)
 }
 
@@ -92,23 +95,18 @@ fn sooner_of(a: Asked, b: Asked) -> Asked
 }
 
 // What the open rows ask of a node with these marks, in one pass.
-pub fn open_rows_ask<'a>(
-    column: &'a [u8; 256],
-    row: &'a [u8; 64],
-    rows: usize,
-    heads: &[u16; 65],
-    entries: &[u8],
-) -> Asked
-    requires { ⌜ SomeRows rows (now heads) (now entries) ⌝ }
-    ensures { λ r. ⌜ ((p : Instance) (starts : List ℕ) (s : Node) → s .column ≡ now (column .entry) → s .row ≡ now (row .entry) → rows ≡ p .rows → ByRow p starts (now (heads .entry)) (now (entries .entry)) → r ≡ asked p s) ⌝ }
+pub fn open_rows_ask<'a>(column: &'a [u8; 256], row: &'a [u8; 64], matrix: &[u16]) -> Asked
+    requires { ⌜ Kept (now matrix) ⌝ }
+    ensures { λ r. ⌜ r ≡ asked (matrixIn (now (matrix .entry))) (view [] (now (column .entry)) (now (row .entry))) ⌝ }
 {
+    let rows = row_count(matrix);
     let mut found = Asked::Settled;
     let mut i = 0;
     while i < rows {
         let at = i;
         i += 1;
         if row[at] == 1 {
-            let next = row_asks(column, heads, entries, at);
+            let next = row_asks(column, matrix, at);
             if let Asked::Dead = next {
                 return Asked::Dead;
             }
@@ -119,20 +117,13 @@ pub fn open_rows_ask<'a>(
 }
 
 // Takes what is forced until nothing is.
-pub fn force(
-    s: Node,
-    rows: usize,
-    starts: &[u16; 257],
-    numbers: &[u8],
-    heads: &[u16; 65],
-    entries: &[u8],
-) -> Forced
-    requires { ⌜ Forcible s rows (now starts) (now numbers) (now heads) (now entries) ⌝ }
-    ensures { λ r. ⌜ ((p : Instance) → rows ≡ p .rows → ByColumn p (now (starts .entry)) (now (numbers .entry)) → ByRow p (now (starts .entry)) (now (heads .entry)) (now (entries .entry)) → r ≡ force joined p s) ⌝ }
+pub fn force(s: Node, matrix: &[u16]) -> Forced
+    requires { ⌜ Workable (now matrix) s ⌝ }
+    ensures { λ r. ⌜ r ≡ force joined (matrixIn (now (matrix .entry))) s ⌝ }
 {
     let mut n = s;
     loop {
-        let found = open_rows_ask(&n.column, &n.row, rows, heads, entries);
+        let found = open_rows_ask(&n.column, &n.row, matrix);
         match found {
             Asked::Dead => {
                 return Forced {
@@ -147,7 +138,7 @@ pub fn force(
                 };
             }
             Asked::Take(j) => {
-                n = n.take(j, starts, numbers, heads, entries);
+                n = n.take(j, matrix);
             }
         }
     }

@@ -1,1 +1,2 @@
-pub mod Read
+mod Read
+mod Loading

@@ -1,8 +1,7 @@
 -- A file is refused by its own tests, since the lists have room for any accepted file; and the front of each list is the file's own list.
 use mathlib.Core.Path.{_≡_, refl, ap, sym, _∙_}
 use mathlib.Core.List.{List}
-use Prim.Native.Nat.{ℕ, _-_, _≤_}
-use native.Mathlib.Nat.{sub-zero}
+use Prim.Native.Nat.{ℕ, _≤_}
 use native.Mathlib.Omega.{arith}
 use lib.ListN.{length, getD, take, drop, replicate, length-map}
 use lib.Seq.{take-append-seam}
@@ -12,16 +11,15 @@ use Rattle.refusals.specs.declared.Refusal.{Refusal}
 use Rattle.refusals.proofs.Laws.{passes, accepts, refuses, fills}
 use Rattle.node.specs.Lists.{table}
 use Rattle.dutyfile.specs.declared.Shape.{Shape}
-use Rattle.dutyfile.specs.File.{columnsIn, entries, costOf, sizeOf, parse, sum, instance, shape}
+use Rattle.dutyfile.specs.File.{columnsIn, entries, costOf, sizeOf, parse, sum, shape}
 use Rattle.dutyfile.specs.Faults.{fileFault, roomsFault, reading, contentsFault}
 use Rattle.dutyfile.proofs.Entries.{length-entries}
 use Rattle.dutyfile.proofs.Facts.{Accepted, file-fine, all-pass, contents-small, length-numbers}
 use Rattle.examine.specs.declared.ReadAnswer.{ReadAnswer}
 use Rattle.examine.specs.declared.ReadAnswer.the-variants.{Accepted as accept, Refused as refuse}
 use Rattle.examine.specs.Answer.{readOutcome}
-use Rattle.matrix.specs.Stated.{Stated}
 use Rattle.matrix.proofs.Root.{zeros-after}
-use Rattle.matrix.proofs.Accepted.{file-stated}
+use Rattle.matrix.proofs.Accepted.{file-is, file-wide, file-statable, file-cheap}
 use Rattle.lists.specs.Listed.{Places, Listed}
 
 -- what an accepted file's lists hold
@@ -105,10 +103,9 @@ module _ (s : List ℕ) (r : ReadAnswer) (old old′ old″ : List ℕ) (places 
           shape-is = refl;
           columns = z .columns;
           entries = z .entries;
-          stated = rw (c, d, k) (file-stated s a);
+          costs-is = c;
+          statable = rw (d, k) (file-statable s a);
+          matrix-is = rw (d, k) (file-is s a);
+          wide = file-wide s a;
+          cheap = file-cheap s a;
         })
-
--- the parts of the lists that a caller hands on
-pub listed-parts : (s : List ℕ) (found : Shape) (costs lengths numbers : List ℕ) → Listed s found costs lengths numbers →
-    Stated (instance (parse s)) (found .rows) (found .columns) costs (take (found .columns - 0) lengths) (take (found .entries - 0) numbers)
-listed-parts s found costs lengths numbers l = rw (sub-zero, sub-zero) (l .stated)

@@ -1,13 +1,14 @@
-// A file read into lists of the caller's own, which have room for any accepted file.
+// A file read as the list of its matrix and a table of its costs.
 use examine::ReadAnswer;
 ghost use mathlib.Core.Path.{_≡_};
 ghost use lib.ListN.{replicate};
 ghost use Rattle.refusals.specs.Refusals.{fault, numberOf};
+ghost use Rattle.refusals.specs.declared.Refusal.{Refusal};
 ghost use Rattle.dutyfile.specs.declared.Shape.{Shape};
 ghost use Rattle.dutyfile.specs.Faults.{fileFault};
 ghost use Rattle.examine.specs.declared.ReadAnswer.the-variants.{Accepted, Refused};
-ghost use Rattle.refusals.specs.declared.Refusal.{Refusal};
 ghost use Rattle.lists.specs.Listed.{Places, Listed};
+ghost use Rattle.lists.specs.Loaded.{Loaded};
 
 // Places for n costs, n body lengths and t row numbers.
 pub fn no_costs() -> [u32; 256]
@@ -16,28 +17,43 @@ pub fn no_costs() -> [u32; 256]
     [0u32; 256]
 }
 
-pub fn no_lengths() -> [u16; 256]
+fn no_lengths() -> [u16; 256]
     ensures { λ r. ⌜ r ≡ replicate 256 0 ⌝ }
 {
     [0u16; 256]
 }
 
-pub fn no_numbers() -> [u8; 4096]
+fn no_numbers() -> [u8; 4096]
     ensures { λ r. ⌜ r ≡ replicate 4096 0 ⌝ }
 {
     [0u8; 4096]
 }
 
-// Reads a file into such places: the instance that they state then is the file's.
-pub fn read_lists(
-    file: &[u8],
-    costs: &mut [u32],
-    lengths: &mut [u16],
-    numbers: &mut [u8],
-) -> ReadAnswer
+// Reads a file into such places: the matrix and the costs that they state then are the file's.
+fn read_lists(file: &[u8], costs: &mut [u32], lengths: &mut [u16], numbers: &mut [u8]) -> ReadAnswer
     requires { ⌜ Places (now costs) (now lengths) (now numbers) ⌝ }
     ensures { λ r. ⌜ ((why : Refusal) → r ≡ Refused why → fileFault (now (file .entry)) ≡ fault (numberOf why)) ⌝ }
     ensures { λ r. ⌜ ((found : Shape) → r ≡ Accepted found → Listed (now (file .entry)) found (now (costs .exit)) (now (lengths .exit)) (now (numbers .exit))) ⌝ }
 {
     reader::read(file, costs, lengths, numbers)
+}
+
+// Reads a file: the list of its matrix, and its costs.
+pub fn read_matrix(file: &[u8], matrix: &mut [u16; 8516], costs: &mut [u32; 256]) -> ReadAnswer
+    requires { ⌜ now costs ≡ replicate 256 0 ⌝ }
+    ensures { λ r. ⌜ ((why : Refusal) → r ≡ Refused why → fileFault (now (file .entry)) ≡ fault (numberOf why)) ⌝ }
+    ensures { λ r. ⌜ ((found : Shape) → r ≡ Accepted found → Loaded (now (file .entry)) found (now (matrix .exit)) (now (costs .exit))) ⌝ }
+{
+    let mut lengths = no_lengths();
+    let mut numbers = no_numbers();
+    let found = read_lists(file, costs, &mut lengths, &mut numbers);
+    match found {
+        ReadAnswer::Refused(why) => ReadAnswer::Refused(why),
+        ReadAnswer::Accepted(shape) => {
+            let columns = shape.columns;
+            let entries = shape.entries;
+            *matrix = matrix::matrix_list(shape.rows, &lengths[0..columns], &numbers[0..entries]);
+            ReadAnswer::Accepted(shape)
+        }
+    }
 }

@@ -11,28 +11,28 @@ use Rattle.node.specs.declared.Node.{Node}
 use Rattle.rules.specs.declared.Candidate.{Candidate}
 use Rattle.node.specs.Lists.{pick}
 use Rattle.node.specs.Passes.{bestIn}
-use Rattle.node.specs.Instance.{Instance, FitsNode}
+use Rattle.node.specs.Matrix.{Matrix}
 use Rattle.node.specs.Node.{costAt, freeColumns, freeOf, openRows}
 use Rattle.rules.specs.Reduce.{leastOf, candidates, candidate, rowFirst, Reduced, reduceBy}
 use Rattle.rules.specs.Reduce as rules
 use Rattle.node.proofs.Members.{least-le}
 use Rattle.rules.proofs.Plans.{FreeIn}
 use Rattle.rules.proofs.Rows.{in-free}
-use Rattle.rules.proofs.Costs.{Good}
-use Rattle.rules.proofs.Reducing.{pending, pending-fits, reduce-none, reduce-some}
-use Rattle.node.specs.Stored.{ByRow}
-use Rattle.candidates.specs.Row.{view}
+use Rattle.rules.proofs.Costs.{Fair, Workable, costLimit}
+use Rattle.rules.proofs.Reducing.{pending, pending-fits, fair-lowers, reduce-none, reduce-some}
+use Rattle.node.specs.Stored.{matrixIn, FitsNode}
+use Rattle.node.specs.View.{view}
 use Rattle.candidates.specs.Best.{none, bestOf}
-use Rattle.lowering.specs.Lower.{SomeLower}
-use Rattle.lowering.specs.Done.{SomeGood, Done}
+use Rattle.lowering.specs.Lower.{Lowerable}
+use Rattle.lowering.specs.Done.{Done}
 use Rattle.lowering.proofs.Lowered.{lower-wide, lower-node}
 
 -- a node's best candidate does not depend on its bound
-pub same-best : (p : Instance) (s : Node) → bestOf p (view (s .cost) (s .column) (s .row)) ≡ bestOf p s
+pub same-best : (p : Matrix) (s : Node) → bestOf p (view (s .cost) (s .column) (s .row)) ≡ bestOf p s
 unfolding candidates candidate rowFirst leastOf freeOf freeColumns openRows
 same-best p s = refl
 
-module _ (p : Instance) (F : FitsNode p) (s : Node) where
+module _ (p : Matrix) (F : FitsNode p) (s : Node) where
   -- the best candidate is the row picked
   record Picked (best : Candidate) : Type 0 where
     first : ℕ
@@ -74,37 +74,38 @@ module _ (p : Instance) (F : FitsNode p) (s : Node) where
       go (i ∷ is) q =
           let b : ℕ = pick (rowFirst p s) i is in
           let c : best .cost ≡ leastOf p s b = ap (λ (c : Candidate). c .cost) (e ∙ best-cons i is q) in
-          absurd (omega (arith, reduce-some p F s [] i is q .above))
+          absurd (omega (arith, reduce-some p F (Fair p costLimit) (fair-lowers p F costLimit) s [] i is q .above))
 
 -- row i of a node lowered by a
-pub record Step (p : Instance) (now : Node) (i a : ℕ) : Type 0 where
-  pub row : i < p .rows
-  pub covered : (j : ℕ) → FreeIn p now i j → a ≤ costAt now j
-  pub falls : pending p (rules.lower p now i a) < pending p now
-  pub good : Good p now → Good p (rules.lower p now i a)
-  pub left : (us : List ℕ) → reduceBy (suc (p .rows)) p now us ≡ reduceBy (suc (p .rows)) p (rules.lower p now i a) (us ++ (i ∷ []))
+record Step (p : Matrix) (now : Node) (i a : ℕ) : Type 0 where
+  row : i < p .rows
+  covered : (j : ℕ) → FreeIn p now i j → a ≤ costAt now j
+  falls : pending p (rules.lower p now i a) < pending p now
+  fair : Fair p costLimit now → Fair p costLimit (rules.lower p now i a)
+  left : (us : List ℕ) → reduceBy (suc (p .rows)) p now us ≡ reduceBy (suc (p .rows)) p (rules.lower p now i a) (us ++ (i ∷ []))
 
-step-picked : (p : Instance) → FitsNode p → (now : Node) (i : ℕ) (is : List ℕ) → candidates p now ≡ i ∷ is →
+step-picked : (p : Matrix) → FitsNode p → (now : Node) (i : ℕ) (is : List ℕ) → candidates p now ≡ i ∷ is →
     let b : ℕ = pick (rowFirst p now) i is in Step p now b (leastOf p now b)
 unfolding leastOf
 step-picked p F now i is e =
     let b : ℕ = pick (rowFirst p now) i is in
-    let t = reduce-some p F now [] i is e in
+    let some = reduce-some p F (Fair p costLimit) (fair-lowers p F costLimit) now in
+    let t = some [] i is e in
     record {
       row = t .row-open .row;
       covered = λ j f. least-le (costAt now) (freeOf p now b) j (in-free p now b j f);
       falls = t .falls;
-      good = t .good;
-      left = λ us. reduce-some p F now us i is e .left;
+      fair = t .good;
+      left = λ us. some us i is e .left;
     }
 
-step-best : (p : Instance) (F : FitsNode p) (now : Node) (best : Candidate) → Picked p F now best → Step p now (best .row) (best .cost)
+step-best : (p : Matrix) (F : FitsNode p) (now : Node) (best : Candidate) → Picked p F now best → Step p now (best .row) (best .cost)
 step-best p F now best q = go (best .row) (best .cost) (q .row-is) (q .cost-is)
   where
     go : (i a : ℕ) → i ≡ pick (rowFirst p now) (q .first) (q .rest) → a ≡ leastOf p now (pick (rowFirst p now) (q .first) (q .rest)) → Step p now i a
     go i a e f = rw (e, f) (step-picked p F now (q .first) (q .rest) (q .listed))
 
-bound-is : (p : Instance) (now : Node) (i a : ℕ) → rules.lower p now i a .bound ≡ now .bound + a
+bound-is : (p : Matrix) (now : Node) (i a : ℕ) → rules.lower p now i a .bound ≡ now .bound + a
 unfolding rules.lower
 bound-is p now i a = refl
 
@@ -114,119 +115,96 @@ used-more : (used : List ℕ) (count : ℕ) (rows : List ℕ) (row : ℕ) → ta
 used-more used count rows row e l =
     rw (add-one count, add-one row) (take-suc-set used count (suc row) l ∙ rw e (sym (map-append suc rows (row ∷ []))))
 
--- where the loop stands, for an instance
-pub record Reached (p : Instance) (s now : Node) (used : List ℕ) (count : ℕ) (best : Candidate) : Type 0 where
-  pub rows : List ℕ
-  pub used-is : take count used ≡ map suc rows
-  pub count-is : count ≡ length rows
-  pub room : count + pending p now ≤ p .rows
-  pub left : reduceBy (suc (p .rows)) p now rows ≡ rules.reduce p s
-  pub best-is : best ≡ bestOf p now
-  pub good : Good p s → Good p now
-
-pub record Reducing (rows : ℕ) (starts heads entries : List ℕ) (s now : Node) (used : List ℕ) (count : ℕ) (best : Candidate) : Type 0 where
-  pub some : SomeGood s rows starts heads entries
+-- where the loop stands
+pub record Reducing (l : List ℕ) (s now : Node) (used : List ℕ) (count : ℕ) (best : Candidate) : Type 0 where
+  pub some : Workable l now
   pub long : length used ≡ 64
   pub wide : length (now .cost) ≡ 256
   pub marks : now .column ≡ s .column
-  pub reached : (p : Instance) → rows ≡ p .rows → ByRow p starts heads entries → Reached p s now used count best
+  pub rows : List ℕ
+  pub used-is : take count used ≡ map suc rows
+  pub count-is : count ≡ length rows
+  pub room : count + pending (matrixIn l) now ≤ matrixIn l .rows
+  pub left : reduceBy (suc (matrixIn l .rows)) (matrixIn l) now rows ≡ rules.reduce (matrixIn l) s
+  pub best-is : best ≡ bestOf (matrixIn l) now
 
-abbrev pub BestIn : ℕ → List ℕ → List ℕ → List ℕ → Node → Candidate → Type 0
-BestIn rows starts heads entries s best =
-    (p : Instance) → rows ≡ p .rows → ByRow p starts heads entries → best ≡ bestOf p (view (s .cost) (s .column) (s .row))
+-- what is told of a node's tables
+abbrev BestIn : List ℕ → Node → Candidate → Type 0
+BestIn l s best = best ≡ bestOf (matrixIn l) (view (s .cost) (s .column) (s .row))
 
-pub reducing-start : (rows : ℕ) (starts heads entries : List ℕ) (s : Node) (used : List ℕ) (best : Candidate) →
-    SomeGood s rows starts heads entries → length used ≡ 64 → length (s .cost) ≡ 256 → BestIn rows starts heads entries s best →
-    Reducing rows starts heads entries s s used 0 best
+pub reducing-start : (l : List ℕ) (s : Node) (used : List ℕ) (best : Candidate) → Workable l s → length used ≡ 64 → length (s .cost) ≡ 256 →
+    BestIn l s best → Reducing l s s used 0 best
 unfolding rules.reduce
-reducing-start rows starts heads entries s used best k l c b = record {
+reducing-start l s used best k u c b = record {
   some = k;
-  long = l;
+  long = u;
   wide = c;
   marks = refl;
-  reached = λ p e h. record {
-    rows = [];
-    used-is = refl;
-    count-is = refl;
-    room = omega (arith, pending-fits p s);
-    left = refl;
-    best-is = b p e h ∙ same-best p s;
-    good = λ g. g;
-  };
+  rows = [];
+  used-is = refl;
+  count-is = refl;
+  room = omega (arith, pending-fits (matrixIn l) s);
+  left = refl;
+  best-is = b ∙ same-best (matrixIn l) s;
 }
 
-module _ (rows : ℕ) (starts heads entries : List ℕ) (s now : Node) (used : List ℕ) (count : ℕ) (best : Candidate)
-    (w : Reducing rows starts heads entries s now used count best) where
+module _ (l : List ℕ) (s now : Node) (used : List ℕ) (count : ℕ) (best : Candidate) (w : Reducing l s now used count best) where
   module _ (n : best .cost ≡ 0 → ⊥) where
-    -- one step, for an instance
-    module _ (p : Instance) (e : rows ≡ p .rows) (h : ByRow p starts heads entries) where
-      step : Step p now (best .row) (best .cost)
-      step = step-best p (h .small .fits) now best (picked p (h .small .fits) now best (w .reached p e h .best-is) n)
+    step : Step (matrixIn l) now (best .row) (best .cost)
+    step =
+        let F = w .some .kept .small .fits in
+        step-best (matrixIn l) F now best (picked (matrixIn l) F now best (w .best-is) n)
 
-    -- the step that the code takes
-    pub reducing-lower : SomeLower (now .cost) (s .column) heads entries (best .row) (best .cost)
-    reducing-lower =
-        let k = w .some .some in
-        let t = step (k .p) (k .rows-is) (k .kept) in
-        record {
-          some = record { p = k .p; starts = starts; kept = k .kept; row = t .row };
-          covered = λ j f.
-              t .covered j (record { free = record { col = f .free .col; is-free = rw (w .marks) (f .free .is-free) }; covering = f .covering });
-          wide = w .wide;
-        }
+    pub reducing-lower : Lowerable (now .cost) (s .column) l (best .row) (best .cost)
+    reducing-lower = record {
+      has = record { kept = w .some .kept; row = step .row };
+      covered = λ j f.
+          step .covered j (record { free = record { col = f .free .col; is-free = rw (w .marks) (f .free .is-free) }; covering = f .covering });
+      wide = w .wide;
+    }
 
     pub reducing-fits : now .bound + best .cost < 4294967296
-    reducing-fits =
-        let k = w .some .some in
-        let t = step (k .p) (k .rows-is) (k .kept) in
-        let g = t .good (w .reached (k .p) (k .rows-is) (k .kept) .good (w .some .good)) in
-        omega (arith, g .within, k .kept .small .cheap, bound-is (k .p) now (best .row) (best .cost))
+    reducing-fits = omega (arith, step .fair (w .some .fair) .within, bound-is (matrixIn l) now (best .row) (best .cost))
 
     pub reducing-room : (best .row < 64) × (count < 64)
     reducing-room =
-        let k = w .some .some in
-        let t = step (k .p) (k .rows-is) (k .kept) in
-        let f = k .kept .small .fits .tall in
-        let r = w .reached (k .p) (k .rows-is) (k .kept) .room in
-        (omega (arith, t .row), omega (arith, t .falls))
+        let f = w .some .kept .small .fits .tall in
+        let r = w .room in
+        (omega (arith, step .row), omega (arith, step .falls))
 
-    pub reducing-next : (out : List ℕ) →
-        ((p : Instance) (starts : List ℕ) → ByRow p starts heads entries → best .row < p .rows → out ≡ rules.lower p (view (now .cost) (s .column) []) (best .row) (best .cost) .cost) →
-        (best′ : Candidate) →
-        let next : Node = record { cost = out; column = now .column; row = now .row; bound = now .bound + best .cost } in
-        BestIn rows starts heads entries next best′ → Reducing rows starts heads entries s next (set used count (best .row + 1)) (count + 1) best′
-    reducing-next out told best′ b = record {
-      some = w .some;
-      long = length-set used count (best .row + 1) ∙ w .long;
-      wide =
-          let k = w .some .some in
-          rw (told (k .p) starts (k .kept) (step (k .p) (k .rows-is) (k .kept) .row)) (lower-wide (k .p) (view (now .cost) (s .column) []) (best .row) (best .cost));
-      marks = w .marks;
-      reached = λ p e h.
-          let t = step p e h in
-          let r = w .reached p e h in
-          let next : Node = record { cost = out; column = now .column; row = now .row; bound = now .bound + best .cost } in
-          let q : next ≡ rules.lower p now (best .row) (best .cost) =
-          lower-node p now (s .column) (best .row) (best .cost) (w .marks) out (told p starts h (t .row)) in
-          record {
-            rows = r .rows ++ (best .row ∷ []);
-            used-is = used-more used count (r .rows) (best .row) (r .used-is) (omega (arith, w .long, reducing-room .1));
-            count-is = omega (arith, r .count-is, length-append (r .rows) (best .row ∷ []));
-            room = rw q (omega (arith, r .room, t .falls));
-            left = rw q (sym (t .left (r .rows)) ∙ r .left);
-            best-is = b p e h ∙ same-best p next;
-            good = λ g. rw q (t .good (r .good g));
-          };
-    }
+    module _ (out : List ℕ) (told : out ≡ rules.lower (matrixIn l) (view (now .cost) (s .column) []) (best .row) (best .cost) .cost) where
+      next : Node
+      next = record { cost = out; column = now .column; row = now .row; bound = now .bound + best .cost }
 
-  pub reducing-end : best .cost ≡ 0 → (p : Instance) → rows ≡ p .rows → ByRow p starts heads entries →
-      Done p s (record { node = now; used = used; count = count })
-  reducing-end z p e h =
-      let r = w .reached p e h in
-      let d : rules.reduce p s ≡ record { node = now; used = r .rows } =
-      sym (r .left) ∙ reduce-none p (h .small .fits) now (r .rows) (nothing-left p (h .small .fits) now best (r .best-is) z) in
+      next-is : next ≡ rules.lower (matrixIn l) now (best .row) (best .cost)
+      unfolding next
+      next-is = lower-node (matrixIn l) now (s .column) (best .row) (best .cost) (w .marks) out told
+
+      pub reducing-next : (best′ : Candidate) → BestIn l (record { cost = out; column = now .column; row = now .row; bound = now .bound + best .cost }) best′ →
+          Reducing l s (record { cost = out; column = now .column; row = now .row; bound = now .bound + best .cost })
+          (set used count (best .row + 1)) (count + 1) best′
+      unfolding next
+      reducing-next best′ b = record {
+        some = record { kept = w .some .kept; fair = rw next-is (step .fair (w .some .fair)) };
+        long = length-set used count (best .row + 1) ∙ w .long;
+        wide = rw told (lower-wide (matrixIn l) (view (now .cost) (s .column) []) (best .row) (best .cost));
+        marks = w .marks;
+        rows = w .rows ++ (best .row ∷ []);
+        used-is = used-more used count (w .rows) (best .row) (w .used-is) (omega (arith, w .long, reducing-room .1));
+        count-is = omega (arith, w .count-is, length-append (w .rows) (best .row ∷ []));
+        room = rw next-is (omega (arith, w .room, step .falls));
+        left = rw next-is (sym (step .left (w .rows)) ∙ w .left);
+        best-is = b ∙ same-best (matrixIn l) next;
+      }
+
+  pub reducing-end : best .cost ≡ 0 → Done (matrixIn l) s (record { node = now; used = used; count = count })
+  reducing-end z =
+      let p : Matrix = matrixIn l in
+      let F = w .some .kept .small .fits in
+      let d : rules.reduce p s ≡ record { node = now; used = w .rows } =
+      sym (w .left) ∙ reduce-none p F (Fair p costLimit) (fair-lowers p F costLimit) now (w .rows) (nothing-left p F now best (w .best-is) z) in
       record {
         node-is = sym (ap (λ (x : Reduced). x .node) d);
-        used-is = r .used-is ∙ ap (λ (x : Reduced). map suc (x .used)) (sym d);
-        count-is = r .count-is ∙ ap (λ (x : Reduced). length (x .used)) (sym d);
+        used-is = w .used-is ∙ ap (λ (x : Reduced). map suc (x .used)) (sym d);
+        count-is = w .count-is ∙ ap (λ (x : Reduced). length (x .used)) (sym d);
       }

@@ -14,14 +14,14 @@ use Rattle.node.proofs.Loops.{table-ext}
 use Rattle.node.specs.declared.Node.{Node}
 use Rattle.node.specs.Lists.{member, keep, from, upto, on}
 use Rattle.node.specs.Passes.{carry}
-use Rattle.node.specs.Instance.{Instance, width, covers}
+use Rattle.node.specs.Matrix.{Matrix, width, covers}
+use Rattle.node.specs.Stored.{rowColumns}
 use Rattle.node.proofs.Members.{kept, member-at, member-cases, length-from}
 use Rattle.node.proofs.Passes.{Carrying, carrying-start, carrying-next, carrying-end}
-use Rattle.candidates.specs.Row.{view}
+use Rattle.node.specs.View.{view}
 use Rattle.node.specs.Node.{isFree, costAt}
 use Rattle.rules.specs.Reduce as rules
 use Rattle.rules.proofs.Plans.{FreeIn}
-use Rattle.node.specs.Stored.{Small, rowColumns}
 use Rattle.node.proofs.Parts.{row-column, row-covers}
 use Rattle.lowering.specs.Lower.{lowerOne, lowerAt, Covered, Rising}
 
@@ -94,7 +94,7 @@ keep-rising t (suc n) k = go (t k) (keep-rising t n (suc k))
     go false r = r
     go true r = more r
 
-pub row-rising : (p : Instance) (i : ℕ) (row : List ℕ) → row ≡ rowColumns p i → Rising row
+pub row-rising : (p : Matrix) (i : ℕ) (row : List ℕ) → row ≡ rowColumns p i → Rising row
 row-rising p i row e = rw e (keep-rising (covers p i) (width p) 0)
 
 -- a place of the lowered costs
@@ -146,7 +146,7 @@ module _ (column cost : List ℕ) (a : ℕ) where
           rw (sym q) (pair (eqb (getD column k 0) 1) (member k js) (getD cost k 0 - a) (getD out k 0))
       go false e = rw (and-false (eqb (getD column j 0) 1))
 
-module _ (p : Instance) (i : ℕ) (cost column : List ℕ) (a : ℕ) (row : List ℕ) (is : row ≡ rowColumns p i) where
+module _ (p : Matrix) (i : ℕ) (cost column : List ℕ) (a : ℕ) (row : List ℕ) (is : row ≡ rowColumns p i) where
   -- the amount can leave the free columns of the row
   pub row-covered : ((j : ℕ) → FreeIn p (view cost column []) i j → a ≤ getD cost j 0) → Covered column cost a row
   row-covered h = rw is (λ n m f.
@@ -154,28 +154,28 @@ module _ (p : Instance) (i : ℕ) (cost column : List ℕ) (a : ℕ) (row : List
       let r = row-column p i n m in
       h j (record { free = record { col = r .0; is-free = eq-eqb (getD column j 0) 1 f }; covering = r .1 }))
 
-  pub lower-is : Small p → length cost ≡ 256 → (out : List ℕ) → out ≡ lowerAt column cost a row cost →
+  pub lower-is : length cost ≡ 256 → (out : List ℕ) → out ≡ lowerAt column cost a row cost →
       out ≡ rules.lower p (view cost column []) i a .cost
   unfolding rules.lower free
-  lower-is q w out e =
+  lower-is w out e =
       let s : Node = view cost column [] in
       let t : ℕ → ℕ = λ j. costAt s j - on (isFree s j && covers p i j) a in
       let f : out ≡ lowerAt column cost a (rowColumns p i) cost = rw is at e in
       f ∙ table-ext 256 t (lowerAt column cost a (rowColumns p i) cost)
       (length-lower column cost a (rowColumns p i) cost ∙ w)
       (λ j m. lower-at column cost a (rowColumns p i) cost j (omega arith)
-      ∙ rw (row-covers p q i j) (go (isFree s j && covers p i j) (costAt s j)))
+      ∙ rw (row-covers p i j) (go (isFree s j && covers p i j) (costAt s j)))
     where
       go : (b : Bool) (x : ℕ) → cond b (x - a) x ≡ x - on b a
       go true x = refl
       go false x = rw sub-zero
 
-pub lower-wide : (p : Instance) (s : Node) (i a : ℕ) → length (rules.lower p s i a .cost) ≡ 256
+pub lower-wide : (p : Matrix) (s : Node) (i a : ℕ) → length (rules.lower p s i a .cost) ≡ 256
 unfolding rules.lower
 lower-wide p s i a = length-map (upto 256) (λ j. costAt s j - on (isFree s j && covers p i j) a) ∙ length-from 256 0
 
 -- the whole step: the amount also joins the bound
-pub lower-node : (p : Instance) (s : Node) (column : List ℕ) (i a : ℕ) → s .column ≡ column → (out : List ℕ) →
+pub lower-node : (p : Matrix) (s : Node) (column : List ℕ) (i a : ℕ) → s .column ≡ column → (out : List ℕ) →
     out ≡ rules.lower p (view (s .cost) column []) i a .cost →
     record { cost = out; column = s .column; row = s .row; bound = s .bound + a } ≡ rules.lower p s i a
 unfolding rules.lower

@@ -7,8 +7,8 @@ use lib.ListN.{length, getD, set}
 use lib.Dec.{eqb}
 use Rattle.node.specs.Passes.{carry}
 use Rattle.rules.proofs.Plans.{FreeIn}
-use Rattle.node.specs.Stored.{SomeRow}
-use Rattle.candidates.specs.Row.{view}
+use Rattle.node.specs.Stored.{matrixIn, HasRow}
+use Rattle.node.specs.View.{view}
 
 -- an amount off the cost of column j, if it is free, and off those of the free columns of a list
 unfoldable pub lowerOne : List ℕ → List ℕ → ℕ → List ℕ → ℕ → List ℕ
@@ -25,8 +25,8 @@ Covered column cost a row = (k : ℕ) → k < length row → getD column (getD r
 abbrev pub Rising : List ℕ → Type 0
 Rising row = (a b : ℕ) → a < b → b < length row → getD row a 0 < getD row b 0
 
--- some instance with more than i rows is kept by rows so, and an amount can leave the free columns of row i
-pub record SomeLower (cost column heads entries : List ℕ) (i a : ℕ) : Type 0 where
-  pub some : SomeRow heads entries i
-  pub covered : (j : ℕ) → FreeIn (some .p) (view cost column []) i j → a ≤ getD cost j 0
+-- an amount can leave the free columns of row i of a kept matrix
+pub record Lowerable (cost column l : List ℕ) (i a : ℕ) : Type 0 where
+  pub has : HasRow l i
+  pub covered : (j : ℕ) → FreeIn (matrixIn l) (view cost column []) i j → a ≤ getD cost j 0
   pub wide : length cost ≡ 256

@@ -3,14 +3,13 @@ use candidates::best_candidate;
 use node::Node;
 use node::row_part;
 ghost use mathlib.Core.Path.{_≡_};
-ghost use mathlib.Core.List.{List, []};
-ghost use Prim.Native.Nat.{ℕ, _<_};
-ghost use Rattle.node.specs.Instance.{Instance};
+ghost use mathlib.Core.List.{[]};
+ghost use Rattle.node.specs.View.{view};
+ghost use Rattle.node.specs.Stored.{matrixIn, Columns};
 ghost use Rattle.rules.specs.Reduce as rules;
-ghost use Rattle.node.specs.Stored.{ByRow};
-ghost use Rattle.candidates.specs.Row.{view};
-ghost use Rattle.lowering.specs.Lower.{lowerAt, Covered, Rising, SomeLower};
-ghost use Rattle.lowering.specs.Done.{SomeGood, Done};
+ghost use Rattle.rules.proofs.Costs.{Workable};
+ghost use Rattle.lowering.specs.Lower.{lowerAt, Covered, Rising, Lowerable};
+ghost use Rattle.lowering.specs.Done.{Done};
 
 // A node reduced, with the rows used, numbered from 1, at the front of a list.
 pub struct Reduction {
@@ -20,8 +19,8 @@ pub struct Reduction {
 }
 
 // An amount off the costs of the free columns of a row.
-fn lower_costs(cost: &mut [u32; 256], column: &[u8; 256], row: &[u8], amount: u32)
-    requires { ⌜ Covered (now column) (now cost) amount (now row) × Rising (now row) ⌝ }
+fn lower_costs(cost: &mut [u32; 256], column: &[u8; 256], row: &[u16], amount: u32)
+    requires { ⌜ Covered (now column) (now cost) amount (now row) × Rising (now row) × Columns (now row) ⌝ }
     ensures { λ _. ⌜ now (cost .exit) ≡ lowerAt (now (column .entry)) (now (cost .entry)) amount (now (row .entry)) (now (cost .entry)) ⌝ }
 {
     let mut k = 0;
@@ -35,18 +34,11 @@ fn lower_costs(cost: &mut [u32; 256], column: &[u8; 256], row: &[u8], amount: u3
 }
 
 // The step on the costs: an amount leaves the free columns of row i.
-fn lower(
-    cost: &mut [u32; 256],
-    column: &[u8; 256],
-    heads: &[u16; 65],
-    entries: &[u8],
-    i: usize,
-    amount: u32,
-)
-    requires { ⌜ SomeLower (now cost) (now column) (now heads) (now entries) i amount ⌝ }
-    ensures { λ _. ⌜ ((p : Instance) (starts : List ℕ) → ByRow p starts (now (heads .entry)) (now (entries .entry)) → i < p .rows → now (cost .exit) ≡ rules.lower p (view (now (cost .entry)) (now (column .entry)) []) i amount .cost) ⌝ }
+fn lower(cost: &mut [u32; 256], column: &[u8; 256], matrix: &[u16], i: usize, amount: u32)
+    requires { ⌜ Lowerable (now cost) (now column) (now matrix) i amount ⌝ }
+    ensures { λ _. ⌜ now (cost .exit) ≡ rules.lower (matrixIn (now (matrix .entry))) (view (now (cost .entry)) (now (column .entry)) []) i amount .cost ⌝ }
 {
-    let row = row_part(heads, entries, i);
+    let row = row_part(matrix, i);
     lower_costs(cost, column, row, amount);
 }
 
@@ -56,49 +48,26 @@ fn no_rows() -> [u8; 64] {
 }
 
 // Reduces a node: while there is a candidate, the best one is used.
-pub fn reduce_node(
-    node: Node,
-    rows: usize,
-    starts: &[u16; 257],
-    heads: &[u16; 65],
-    entries: &[u8],
-) -> Reduction
-    requires { ⌜ SomeGood node rows (now starts) (now heads) (now entries) ⌝ }
-    ensures { λ r. ⌜ ((p : Instance) → rows ≡ p .rows → ByRow p (now (starts .entry)) (now (heads .entry)) (now (entries .entry)) → Done p node r) ⌝ }
+pub fn reduce_node(node: Node, matrix: &[u16]) -> Reduction
+    requires { ⌜ Workable (now matrix) node ⌝ }
+    ensures { λ r. ⌜ Done (matrixIn (now (matrix .entry))) node r ⌝ }
 {
     let mut present = node;
     let mut used = no_rows();
     let mut count: usize = 0;
-    let mut best = best_candidate(
-        &present.cost,
-        &present.column,
-        &present.row,
-        rows,
-        starts,
-        heads,
-        entries,
-    );
+    let mut best = best_candidate(&present.cost, &present.column, &present.row, matrix);
     while best.cost != 0 {
         lower(
             &mut present.cost,
             &node.column,
-            heads,
-            entries,
+            matrix,
             best.row as usize,
             best.cost,
         );
         present.bound = present.bound + best.cost;
         used[count] = (best.row + 1) as u8;
         count += 1;
-        best = best_candidate(
-            &present.cost,
-            &present.column,
-            &present.row,
-            rows,
-            starts,
-            heads,
-            entries,
-        );
+        best = best_candidate(&present.cost, &present.column, &present.row, matrix);
     }
     Reduction {
         node: present,

@@ -1,5 +1,5 @@
--- The instance of an accepted file is small, since the file's tests bound its numbers; and it is the one that the file's lists state.
-use mathlib.Core.Path.{_≡_, refl, ap, sym, _∙_}
+-- The matrix of an accepted file is small, since the file's tests bound its numbers; and it is the one that the file's lists state.
+use mathlib.Core.Path.{_≡_, refl, ap, _∙_}
 use mathlib.Core.Bool.{true, false≢true}
 use mathlib.Core.List.{List, [], _∷_}
 use mathlib.Core.Logic.{⊎-elim}
@@ -9,21 +9,18 @@ use lib.ListN.{length, getD, take, drop, length-map, length-take, length-drop}
 use borrow.Author.Tests.{ltb-true, leb-true}
 use Rattle.refusals.specs.Refusals.{fine}
 use Rattle.refusals.proofs.Laws.{both, asked}
-use Rattle.node.specs.Lists.{member, table}
-use Rattle.node.specs.Instance.{Instance, width, body, span}
+use Rattle.node.specs.Lists.{member, total}
+use Rattle.node.specs.Matrix.{Matrix, width, body, span}
 use Rattle.node.proofs.Members.{member-cases, and-both}
-use Rattle.rules.proofs.Sums.{total-cong}
 use Rattle.dutyfile.specs.declared.Entry.{Entry}
-use Rattle.dutyfile.specs.File.{rowsIn, columnsIn, bodiesAt, entryOf, entries, costOf, sizeOf, parse, sum, instance, shape}
+use Rattle.dutyfile.specs.File.{rowsIn, columnsIn, bodiesAt, entryOf, entries, sizeOf, parse, sum, instance, shape}
 use Rattle.dutyfile.specs.Faults.{rising, bodiesFault, contentsFault, rowsFault}
 use Rattle.dutyfile.proofs.Entries.{length-entries}
 use Rattle.dutyfile.proofs.Facts.{Accepted, contents-small, length-numbers}
 use Rattle.dutyfile.proofs.Columns.{length-bodies, ColumnAt, column-at}
 use Rattle.node.specs.Stored.{Small}
-use Rattle.matrix.specs.Build.{Counts}
-use Rattle.matrix.specs.Stated.{Stated}
-use Rattle.matrix.proofs.Sums.{sum-take-le, total-sum, total-below}
-use Rattle.matrix.proofs.Stated.{placed}
+use Rattle.matrix.specs.Stated.{stated, Statable}
+use Rattle.matrix.proofs.Sums.{total-below, total-size, bodies-size}
 
 -- numbers that rise within bounds are within them
 rising-member : (low high : ℕ) (xs : List ℕ) (r : ℕ) → rising low high xs ≡ true → member r xs ≡ true → (low < r) × (r ≤ high)
@@ -43,33 +40,42 @@ bodies-rising m (b ∷ bs) zero h = asked (rising 0 m b) 9 (both _ _ h .0)
 bodies-rising m (b ∷ bs) (suc j) h = bodies-rising m bs j (both _ _ h .1)
 
 module _ (s : List ℕ) (a : Accepted s) where
-  wide : width (instance (parse s)) ≡ columnsIn s
-  unfolding instance parse
-  wide = length-map (entries s) costOf ∙ length-entries s
+  abbrev p : Matrix
+  p = instance (parse s) .matrix
 
   lengths-count : length (parse s .lengths) ≡ columnsIn s
   unfolding parse
   lengths-count = length-map (entries s) sizeOf ∙ length-entries s
 
-  pub file-counts : Counts (instance (parse s)) (shape s .rows) (shape s .columns)
-  unfolding shape instance parse
-  file-counts = record { rows-is = refl; columns-is = sym wide }
-
-  column : (j : ℕ) → j < width (instance (parse s)) → ColumnAt s j (entryOf (drop (bodiesAt j) s))
-  column j l = column-at s (a .walked) j (rw wide at l)
-
   numbers-count : length (parse s .numbers) ≡ sum (parse s .lengths)
   numbers-count = length-numbers s (a .walked)
 
-  tall : instance (parse s) .rows ≤ 64
+  -- it is the one that the lists state
+  pub file-is : stated (shape s .rows) (parse s .lengths) (parse s .numbers) ≡ p
+  unfolding shape instance parse
+  file-is = refl
+
+  pub file-wide : width p ≡ shape s .columns
+  unfolding shape instance
+  file-wide = length-bodies (parse s .lengths) (parse s .numbers) ∙ lengths-count
+
+  column : (j : ℕ) → j < width p → ColumnAt s j (entryOf (drop (bodiesAt j) s))
+  unfolding shape
+  column j l = column-at s (a .walked) j (rw file-wide at l)
+
+  few : width p ≤ 256
+  unfolding shape
+  few = omega (arith, file-wide, a .walked .header .counts .columns .most)
+
+  tall : p .rows ≤ 64
   unfolding instance parse
   tall = a .walked .header .counts .rows .most
 
-  numbered : (j r : ℕ) → member r (body (instance (parse s)) j) ≡ true → (1 ≤ r) × (r ≤ instance (parse s) .rows)
+  numbered : (j r : ℕ) → member r (body p j) ≡ true → (1 ≤ r) × (r ≤ p .rows)
   unfolding instance parse rowsFault
-  numbered j r m = rising-member 0 (rowsIn s) (body (instance (parse s)) j) r (bodies-rising (rowsIn s) (instance (parse s) .bodies) j (a .rising)) m
+  numbered j r m = rising-member 0 (rowsIn s) (body p j) r (bodies-rising (rowsIn s) (p .bodies) j (a .rising)) m
 
-  covering : (j : ℕ) → j < width (instance (parse s)) → 0 < span (instance (parse s)) j
+  covering : (j : ℕ) → j < width p → 0 < span p j
   unfolding instance
   covering j l =
       let c = column j l in
@@ -81,43 +87,22 @@ module _ (s : List ℕ) (a : Accepted s) where
   unfolding contentsFault
   contents = contents-small s (a .walked .contents)
 
-  pub file-small : Small (instance (parse s))
+  pub file-small : Small p
   unfolding instance
-  file-small =
-      let p : Instance = instance (parse s) in
-      record {
-        fits = record {
-          wide = omega (arith, wide, a .walked .header .counts .columns .most);
-          tall = tall;
-        };
-        paired = length-bodies (parse s .lengths) (parse s .numbers) ∙ lengths-count ∙ sym wide;
-        numbered = λ j r l m. numbered j r m;
-        covering = covering;
-        full = omega (
-          arith,
-          total-cong (width p) (span p) (λ j. getD (parse s .lengths) j 0) (λ j l. placed (parse s .lengths) (parse s .numbers) j numbers-count (omega (arith, wide, lengths-count)) .length-is),
-          total-sum (parse s .lengths) (width p) (omega (arith, wide, lengths-count)),
-          sum-take-le (parse s .lengths) (width p),
-          contents,
-        );
-        cheap = omega (
-          arith,
-          wide,
-          a .walked .header .counts .columns .most,
-          total-below (width p) (λ j. getD (p .costs) j 0) (λ j l. let c = column j l in omega (arith, c .cost, c .cheap .most)),
-        );
-      }
-
-  -- the lists that it states, with the costs in a table of 256 places
-  pub file-stated : Stated (instance (parse s)) (shape s .rows) (shape s .columns) (table 256 (λ j. getD (parse s .costs) j 0)) (parse s .lengths)
-      (parse s .numbers)
-  unfolding shape instance parse
-  file-stated = record {
-    small = file-small;
-    rows-is = refl;
-    columns-is = sym wide;
-    costs-is = refl;
-    bodies-is = refl;
-    lengths-long = lengths-count;
-    numbers-long = numbers-count;
+  file-small = record {
+    fits = record { wide = few; tall = tall };
+    numbered = λ j r l m. numbered j r m;
+    covering = covering;
+    full = omega (arith, contents, bodies-size (parse s .lengths) (parse s .numbers) numbers-count, total-size (p .bodies));
   }
+
+  pub file-statable : Statable (shape s .rows) (parse s .lengths) (parse s .numbers)
+  file-statable = record { small = rw file-is file-small; numbers-long = numbers-count }
+
+  -- the sum of its costs
+  pub file-cheap : total (width p) (λ j. getD (parse s .costs) j 0) ≤ 256000000
+  file-cheap = omega (
+    arith,
+    few,
+    total-below (width p) (λ j. getD (parse s .costs) j 0) (λ j l. let c = column j l in omega (arith, c .cost, c .cheap .most)),
+  )

@@ -3,19 +3,19 @@
 use mathlib.Core.Path.{_≡_, refl, ap, sym, _∙_}
 use mathlib.Core.Bool.{Bool, true, false, cond, _&&_, _||_}
 use mathlib.Core.List.{List, [], _∷_}
-use Prim.Native.Nat.{ℕ, suc, _+_, _-_, _≤_, _<_}
+use Prim.Native.Nat.{ℕ, zero, suc, _+_, _-_, _≤_, _<_}
 use native.Mathlib.Omega.{arith}
-use lib.ListN.{length, getD, set, drop, length-set, drop-of-length-le}
+use lib.ListN.{length, getD, set, drop, replicate, getD-replicate, length-replicate, length-set, drop-of-length-le}
 use lib.Seq.{getD-set-same, getD-set-other}
-use lib.Dec.{eqb, ltb}
-use borrow.Author.Tests.{eqb-true, eqb-false, lt-ltb, le-ltb, ltb-true, ltb-false}
+use lib.Dec.{eqb}
+use native.Mathlib.Nat.{add-zero, zero-add}
+use borrow.Author.Tests.{eqb-true, eqb-false, eq-eqb, ne-eqb}
 use Rattle.node.proofs.Loops.{drop-step}
-use Rattle.node.specs.Lists.{on, member, keep, upto}
-use Rattle.node.specs.Instance.{Instance, width, body, covers}
+use Rattle.node.specs.Lists.{member, upto}
+use Rattle.node.specs.Matrix.{Matrix, width, body, covers}
 use Rattle.node.proofs.Members.{keep-cong, upto-lt}
-use Rattle.node.specs.Stored.{Body, ByColumn, partAt}
-use Rattle.matrix.specs.Build.{Counts, SomeColumns, place, marked, Covers, markedIn, marksOf}
-use Rattle.node.proofs.Parts.{body-rows}
+use Rattle.node.specs.Stored.{Body, rowColumns}
+use Rattle.matrix.specs.Build.{place, marked, allMarked, markedIn, marksOf}
 
 -- at row number k of a body
 pub record Marking (j : ℕ) (rs cover₀ cover : List ℕ) (k : ℕ) : Type 0 where
@@ -74,90 +74,53 @@ marked-at j (r ∷ rs) cover a h l i k b c =
     go true false m x = refl
     go false e m x = refl
 
-pub length-marked : (j : ℕ) (rs cover : List ℕ) → length (marked j rs cover) ≡ length cover
+length-marked : (j : ℕ) (rs cover : List ℕ) → length (marked j rs cover) ≡ length cover
 unfolding marked
 length-marked j [] cover = refl
 length-marked j (r ∷ rs) cover = length-marked j rs (set cover (place (r - 1) j) 1) ∙ length-set cover (place (r - 1) j) 1
 
--- the first n columns, and one more
-pub covers-none : (p : Instance) (cover : List ℕ) → ((k : ℕ) → k < 16384 → getD cover k 0 ≡ 0) → Covers p 0 cover
-covers-none p cover h i j a b = rw (le-ltb j 0 (omega arith)) (h (place i j) (omega arith))
+-- bodies with row numbers of the table
+abbrev pub Bodies : List (List ℕ) → Type 0
+Bodies bs = (k : ℕ) → k < length bs → Body (getD bs k [])
 
-pub covers-more : (p : Instance) (n : ℕ) (cover : List ℕ) → Covers p n cover → n < 256 → Body (body p n) → length cover ≡ 16384 →
-    Covers p (n + 1) (marked n (body p n) cover)
+-- a place of a table that the columns from j on are marked in: before column j, and in one of them
+module _ (i : ℕ) (b : i < 64) where
+  marked-before : (bs : List (List ℕ)) (j : ℕ) (cover : List ℕ) → Bodies bs → j + length bs ≤ 256 → length cover ≡ 16384 →
+      (k : ℕ) → k < j → getD (allMarked j bs cover) (place i k) 0 ≡ getD cover (place i k) 0
+  unfolding allMarked
+  marked-before [] j cover h w l k m = refl
+  marked-before (rs ∷ bs) j cover h w l k m =
+      marked-before bs (suc j) (marked j rs cover) (λ n q. h (suc n) (omega arith)) (omega arith) (length-marked j rs cover ∙ l) k (omega arith)
+      ∙ marked-at j rs cover (omega arith) (h 0 (omega arith)) l i k b (omega arith)
+      ∙ rw (ne-eqb k j (λ e. omega arith))
+
+  all-marked-at : (bs : List (List ℕ)) (j : ℕ) (cover : List ℕ) → Bodies bs → j + length bs ≤ 256 → length cover ≡ 16384 →
+      (k : ℕ) → k < length bs →
+      getD (allMarked j bs cover) (place i (j + k)) 0 ≡ cond (member (suc i) (getD bs k [])) 1 (getD cover (place i (j + k)) 0)
+  unfolding allMarked
+  all-marked-at [] j cover h w l k m = absurd (omega arith)
+  all-marked-at (rs ∷ bs) j cover h w l zero m =
+      marked-before bs (suc j) (marked j rs cover) (λ n q. h (suc n) (omega arith)) (omega arith) (length-marked j rs cover ∙ l) (j + 0) (omega arith)
+      ∙ marked-at j rs cover (omega arith) (h 0 (omega arith)) l i (j + 0) b (omega arith)
+      ∙ rw (eq-eqb (j + 0) j (add-zero j))
+  all-marked-at (rs ∷ bs) j cover h w l (suc k) m =
+      let e : j + suc k ≡ suc j + k = omega arith in
+      rw e (all-marked-at bs (suc j) (marked j rs cover) (λ n q. h (suc n) (omega arith)) (omega arith) (length-marked j rs cover ∙ l) k (omega arith)
+      ∙ rw (marked-at j rs cover (omega arith) (h 0 (omega arith)) l i (suc j + k) b (omega arith), ne-eqb (suc j + k) j (λ e. omega arith)))
+
+-- the table of a matrix has the columns of each row
+pub marks-row : (p : Matrix) (cover : List ℕ) → width p ≤ 256 → Bodies (p .bodies) → cover ≡ allMarked 0 (p .bodies) (replicate 16384 0) →
+    (i : ℕ) → i < 64 → marksOf cover (width p) i ≡ rowColumns p i
 unfolding covers
-covers-more p n cover h a d l i j b c = marked-at n (body p n) cover a d l i j b c ∙ rw (h i j b c) (go (eqb j n) refl)
-  where
-    go : (e : Bool) → eqb j n ≡ e → cond (e && member (suc i) (body p n)) 1 (on (ltb j n && covers p i j) 1) ≡ on (ltb j (n + 1) && covers p i j) 1
-    go true e =
-        let q : j ≡ n = eqb-true j n e in
-        rw (q, le-ltb n n (omega arith), lt-ltb n (n + 1) (omega arith)) (each (member (suc i) (body p n)))
-      where
-        each : (m : Bool) → cond m 1 0 ≡ on m 1
-        each true = refl
-        each false = refl
-    go false e =
-        let q : j ≡ n → ⊥ = eqb-false j n e in
-        near (ltb j n) refl
-      where
-        near : (t : Bool) → ltb j n ≡ t → on (t && covers p i j) 1 ≡ on (ltb j (n + 1) && covers p i j) 1
-        near true f = rw (lt-ltb j (n + 1) (omega (arith, ltb-true j n f)))
-        near false f = rw (le-ltb j (n + 1) (omega (arith, ltb-false j n f, eqb-false j n e)))
-
--- the whole table has the columns of each row
-pub marks-row : (p : Instance) (cover : List ℕ) → width p ≤ 256 → Covers p (width p) cover → (i : ℕ) → i < 64 →
-    marksOf cover (width p) i ≡ keep (covers p i) (upto (width p))
-marks-row p cover w h i b = keep-cong (markedIn cover i) (covers p i) (upto (width p)) (λ j m. each j (upto-lt (width p) j m))
+marks-row p cover w h e i b = keep-cong (markedIn cover i) (covers p i) (upto (width p)) (λ j m. each j (upto-lt (width p) j m))
   where
     each : (j : ℕ) → j < width p → markedIn cover i j ≡ covers p i j
-    each j l = rw (h i j b (omega arith), lt-ltb j (width p) l) (go (covers p i j))
+    each j l =
+        let z : _≡_ {A = ℕ} (getD (replicate 16384 0) (place i j) 0) 0 = getD-replicate 16384 (place i j) 0 0 (omega arith) in
+        let q : getD cover (place i j) 0 ≡ cond (member (suc i) (body p j)) 1 0 =
+        rw e (rw (zero-add j) at (all-marked-at i b (p .bodies) 0 (replicate 16384 0) h (omega arith) (length-replicate {A = ℕ} 16384 0) j l) ∙ rw z) in
+        rw q (go (member (suc i) (body p j)))
       where
-        go : (t : Bool) → eqb (on t 1) 1 ≡ t
+        go : (t : Bool) → eqb (cond t 1 0) 1 ≡ t
         go true = refl
         go false = refl
-
--- at column j of a matrix that is kept by columns
-pub record Covering (rows columns : ℕ) (starts numbers cover : List ℕ) (j : ℕ) : Type 0 where
-  pub some : SomeColumns rows columns starts numbers
-  pub within : j ≤ columns
-  pub long : length cover ≡ 16384
-  pub done : (p : Instance) → Counts p rows columns → ByColumn p starts numbers → Covers p j cover
-
-pub covering-start : (rows columns : ℕ) (starts numbers cover : List ℕ) → SomeColumns rows columns starts numbers → length cover ≡ 16384 →
-    ((k : ℕ) → k < 16384 → getD cover k 0 ≡ 0) → Covering rows columns starts numbers cover 0
-covering-start rows columns starts numbers cover s l z =
-    record { some = s; within = omega arith; long = l; done = λ p c k. covers-none p cover z }
-
--- body j
-pub record Column (starts numbers : List ℕ) (j : ℕ) : Type 0 where
-  pub few : j < 256
-  pub rises : getD starts j 0 ≤ getD starts (j + 1) 0
-  pub ends : getD starts (j + 1) 0 ≤ length numbers
-  pub rows : Body (partAt starts numbers j)
-
-module _ (rows columns : ℕ) (starts numbers cover : List ℕ) (j : ℕ) (w : Covering rows columns starts numbers cover j) where
-  module _ (inside : j < columns) where
-    pub covering-column : Column starts numbers j
-    covering-column =
-        let s = w .some in
-        let l : j < width (s .p) = omega (arith, s .counts .columns-is) in
-        let c = s .kept .column j l in
-        record {
-          few = omega (arith, s .kept .small .fits .wide);
-          rises = c .rises;
-          ends = c .inside;
-          rows = rw (c .is) (body-rows (s .p) (s .kept .small) j l);
-        }
-
-    pub covering-next : (out : List ℕ) → out ≡ marked j (partAt starts numbers j) cover → Covering rows columns starts numbers out (j + 1)
-    covering-next out e = record {
-      some = w .some;
-      within = omega arith;
-      long = ap length e ∙ length-marked j (partAt starts numbers j) cover ∙ w .long;
-      done = λ p n k.
-          let l : j < width p = omega (arith, n .columns-is) in
-          rw (e, k .column j l .is) (covers-more p j cover (w .done p n k) (covering-column .few) (body-rows p (k .small) j l) (w .long));
-    }
-
-  pub covering-end : columns ≤ j → (p : Instance) → Counts p rows columns → ByColumn p starts numbers → Covers p columns cover
-  covering-end h p n k = let e : j ≡ columns = omega (arith, w .within) in rw e at (w .done p n k)

@@ -1,15 +1,15 @@
 -- Of lists,
-pub mod Sums
-pub mod Members
--- of a matrix that is kept,
-pub mod Parts
--- of the loops that build it,
-mod Starts
+mod Sums
+mod Members
+-- of the loops that build the list,
+mod Putting
 mod Covered
 mod Collected
-mod Collecting
--- and of the root.
+-- of the list that is built,
+mod Parts
+mod Laid
+mod Listing
+-- of the root,
 pub mod Root
--- What lists state, and the instance of an accepted file.
-pub mod Stated
+-- and the matrix of an accepted file.
 pub mod Accepted

@@ -3,12 +3,12 @@ use Prim.Native.Nat.{ℕ, _≤_}
 use native.Mathlib.Omega.{arith}
 use lib.ListN.{length}
 use Rattle.node.specs.Lists.{on, total}
-use Rattle.node.specs.Instance.{Instance, width, body, span, covers}
+use Rattle.node.specs.Matrix.{Matrix, width, body, span, covers}
 use Rattle.rules.proofs.Sums.{total-cong, total-le, total-swap, length-keep}
 use Rattle.node.specs.Stored.{Small, rowColumns}
 use Rattle.matrix.proofs.Members.{members-le}
 
-pub rows-full : (p : Instance) → Small p → total (p .rows) (λ i. length (rowColumns p i)) ≤ 4096
+pub rows-full : (p : Matrix) → Small p → total (p .rows) (λ i. length (rowColumns p i)) ≤ 4096
 unfolding covers
 rows-full p s =
     let f : ℕ → ℕ → ℕ = λ i j. on (covers p i j) 1 in

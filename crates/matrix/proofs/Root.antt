@@ -11,9 +11,11 @@ use lib.Dec.{ltb}
 use borrow.Author.Tests.{ltb-true, ltb-false}
 use Rattle.node.specs.Lists.{on, table}
 use Rattle.node.proofs.Loops.{table-ext}
-use Rattle.node.specs.Instance.{Instance}
+use Rattle.node.specs.declared.Node.{Node}
+use Rattle.node.specs.Matrix.{Matrix, width}
+use Rattle.node.specs.Stored.{FitsNode}
 use Rattle.node.specs.Node.{root}
-use Rattle.matrix.specs.Build.{Counts, ones}
+use Rattle.matrix.specs.Build.{ones}
 
 -- a list at the front of zeros
 pub zeros-after : (new : List ℕ) (m : ℕ) → length new ≤ m → new ++ drop (length new) (replicate m 0) ≡ table m (λ j. getD new j 0)
@@ -71,9 +73,17 @@ module _ (marks₀ : List ℕ) (n : ℕ) (marks : List ℕ) (i : ℕ) (w : Marke
   pub marked-end : n ≤ i → marks ≡ ones n marks₀
   marked-end h = let e : i ≡ n = omega (arith, w .within) in rw e at (w .is)
 
-pub root-is : (p : Instance) (rows columns : ℕ) (costs column row : List ℕ) → Counts p rows columns → (rows ≤ 64) × (columns ≤ 256) →
-    costs ≡ table 256 (λ j. getD (p .costs) j 0) → column ≡ ones columns (replicate 256 0) → row ≡ ones rows (replicate 64 0) →
-    record { cost = costs; column = column; row = row; bound = 0 } ≡ root p
+pub root-is : (p : Matrix) (costs column row : List ℕ) → FitsNode p → length costs ≡ 256 → column ≡ ones (width p) (replicate 256 0) →
+    row ≡ ones (p .rows) (replicate 64 0) → record { cost = costs; column = column; row = row; bound = 0 } ≡ root p costs
 unfolding root
-root-is p rows columns costs column row n h e c r =
-    rw (e, c, r, ones-table columns 256 (h .1), ones-table rows 64 (h .0), n .rows-is, n .columns-is)
+root-is p costs column row f h c r =
+    let e : costs ≡ table 256 (λ j. getD costs j 0) = table-ext 256 (λ j. getD costs j 0) costs h (λ k l. refl) in
+    rw (c, r, ones-table (width p) 256 (f .wide), ones-table (p .rows) 64 (f .tall)) (ap build e)
+  where
+    build : List ℕ → Node
+    build cs = record {
+      cost = cs;
+      column = table 256 (λ j. on (ltb j (width p)) 1);
+      row = table 64 (λ i. on (ltb i (p .rows)) 1);
+      bound = 0;
+    }

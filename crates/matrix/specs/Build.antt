@@ -1,24 +1,23 @@
 -- What the steps of building a matrix and its root come to.
 use mathlib.Core.Path.{_≡_}
-use mathlib.Core.Bool.{Bool, _&&_}
-use mathlib.Core.List.{List, [], _∷_, _++_}
-use Prim.Native.Nat.{ℕ, _+_, _*_, _-_, _≤_, _<_}
-use lib.ListN.{length, getD, set, take, drop, replicate}
-use lib.Dec.{eqb, ltb}
-use Rattle.node.specs.Lists.{on, keep, upto}
-use Rattle.node.specs.Instance.{Instance, width, covers}
-use Rattle.dutyfile.specs.File.{sum}
-use Rattle.matrix.specs.declared.RowLists.{RowLists}
-use Rattle.node.specs.Stored.{ByColumn, Part}
+use mathlib.Core.Bool.{Bool}
+use mathlib.Core.List.{List, [], _∷_, _++_, map}
+use Prim.Native.Nat.{ℕ, suc, _+_, _*_, _-_, _≤_, _<_}
+use lib.ListN.{length, getD, set, drop, replicate}
+use lib.Seq.{sets}
+use lib.Dec.{eqb}
+use Rattle.node.specs.Lists.{keep, upto}
+use Rattle.node.specs.Stored.{Body}
+use Rattle.dutyfile.specs.File.{sum, bodies}
 
--- an instance has so many rows and columns
-pub record Counts (p : Instance) (rows columns : ℕ) : Type 0 where
-  pub rows-is : rows ≡ p .rows
-  pub columns-is : columns ≡ width p
+-- a list with parts put into it: from place k on where each starts and where the last one ends, and from another place on the parts
+unfoldable pub put : List ℕ → ℕ → ℕ → List (List ℕ) → List ℕ
+put l k at [] = set l k at
+put l k at (b ∷ bs) = put (sets (set l k at) at b) (suc k) (at + length b) bs
 
--- where each body starts, and where the last one ends
-pub record Starts (lengths starts : List ℕ) : Type 0 where
-  pub start : (k : ℕ) → k ≤ length lengths → getD starts k 0 ≡ sum (take k lengths)
+-- how long all parts are together
+abbrev pub size : List (List ℕ) → ℕ
+size bs = sum (map length bs)
 
 -- the place of row i and column j in a table of 64 rows of 256 columns
 abbrev pub place : ℕ → ℕ → ℕ
@@ -29,26 +28,33 @@ unfoldable pub marked : ℕ → List ℕ → List ℕ → List ℕ
 marked j [] cover = cover
 marked j (r ∷ rs) cover = marked j rs (set cover (place (r - 1) j) 1)
 
--- the table says which row is covered by which of the first n columns
-abbrev pub Covers : Instance → ℕ → List ℕ → Type 0
-Covers p n cover = (i j : ℕ) → i < 64 → j < 256 → getD cover (place i j) 0 ≡ on (ltb j n && covers p i j) 1
+-- and with the columns from j on marked at the rows of their bodies
+unfoldable pub allMarked : ℕ → List (List ℕ) → List ℕ → List ℕ
+allMarked j [] cover = cover
+allMarked j (b ∷ bs) cover = allMarked (suc j) bs (marked j b cover)
 
--- the columns below n that the table marks in row i
+-- the columns below n that the table marks in row i, and in each row
 abbrev pub markedIn : List ℕ → ℕ → ℕ → Bool
 markedIn cover i j = eqb (getD cover (place i j) 0) 1
 
 abbrev pub marksOf : List ℕ → ℕ → ℕ → List ℕ
 marksOf cover n i = keep (markedIn cover i) (upto n)
 
--- some instance is kept by columns so
-pub record SomeColumns (rows columns : ℕ) (starts numbers : List ℕ) : Type 0 where
-  pub p : Instance
-  pub counts : Counts p rows columns
-  pub kept : ByColumn p starts numbers
+abbrev pub allMarks : List ℕ → ℕ → ℕ → List (List ℕ)
+allMarks cover n rows = map (marksOf cover n) (upto rows)
 
--- the marked columns of each row are kept so
-pub record Rows (cover : List ℕ) (columns rows : ℕ) (kept : RowLists) : Type 0 where
-  pub row : (i : ℕ) → i < rows → Part (kept .heads) (kept .entries) i (marksOf cover columns i)
+-- lists state bodies for which the list and the table have room
+pub record Room (lengths numbers : List ℕ) : Type 0 where
+  pub few : length lengths ≤ 256
+  pub full : sum lengths ≤ 4096
+  pub numbers-long : length numbers ≡ sum lengths
+  pub rows : (j : ℕ) → j < length lengths → Body (getD (bodies lengths numbers) j [])
+
+-- and so do the marks of a table
+pub record RowRoom (cover : List ℕ) (columns rows at : ℕ) : Type 0 where
+  pub few : columns ≤ 256
+  pub low : rows ≤ 64
+  pub full : at + size (allMarks cover columns rows) ≤ 8516
 
 -- a list with its first n places 1
 abbrev pub ones : ℕ → List ℕ → List ℕ

@@ -1,37 +1,39 @@
-// The matrix, kept by columns and by rows, and the root node: built once from the lists of a file.
+// The list that keeps a matrix, and the root node: built once from the lists of a file.
 use node::Node;
 ghost use mathlib.Core.Path.{_≡_};
-ghost use Prim.Native.Nat.{ℕ, _+_, _*_, _≤_, _<_};
-ghost use lib.ListN.{length, getD};
+ghost use Prim.Native.Nat.{_+_, _≤_, _<_};
+ghost use lib.ListN.{length, replicate};
 ghost use lib.Seq.{sets};
-ghost use Rattle.node.specs.Lists.{total, table};
-ghost use Rattle.node.specs.Instance.{Instance};
 ghost use Rattle.node.specs.Node.{root};
-ghost use Rattle.dutyfile.specs.File.{sum};
-ghost use Rattle.node.specs.Stored.{Body, ByColumn, ByRow};
-ghost use Rattle.matrix.specs.Build.{Counts, Starts, marked, Covers, marksOf, Rows, SomeColumns, ones};
+ghost use Rattle.node.specs.Stored.{matrixIn, Body, Kept};
+ghost use Rattle.dutyfile.specs.File.{bodies};
+ghost use Rattle.matrix.specs.Stated.{stated, Statable, Holds};
+ghost use Rattle.matrix.specs.Build.{put, marked, allMarked, marksOf, allMarks, Room, RowRoom, ones};
 
-// Places for the starts, all 0.
-fn no_starts() -> [u16; 257]
-    ensures { λ r. ⌜ getD r 0 0 ≡ 0 ⌝ }
+// Places for a matrix.
+pub fn no_cells() -> [u16; 8516]
+    ensures { λ r. ⌜ length r ≡ 8516 ⌝ }
 {
-    [0u16; 257]
+    [0u16; 8516]
 }
 
-// Where each body starts, and where the last one ends.
-pub fn column_starts(lengths: &[u16]) -> [u16; 257]
-    requires { ⌜ (length (now lengths) ≤ 256) × (sum (now lengths) ≤ 4096) ⌝ }
-    ensures { λ r. ⌜ Starts (now (lengths .entry)) r ⌝ }
+// A table of 64 rows of 256 columns, without marks.
+fn no_marks() -> [u8; 16384]
+    ensures { λ r. ⌜ r ≡ replicate 16384 0 ⌝ }
 {
-    let mut starts = no_starts();
-    let mut end: u16 = 0;
-    let mut j = 0;
-    while j < lengths.len() {
-        end += lengths[j];
-        j += 1;
-        starts[j] = end;
+    [0u8; 16384]
+}
+
+// Puts a body into the list.
+fn put_body(matrix: &mut [u16; 8516], at: usize, body: &[u8])
+    requires { ⌜ at + length (now body) ≤ 8516 ⌝ }
+    ensures { λ _. ⌜ now (matrix .exit) ≡ sets (now (matrix .entry)) at (now (body .entry)) ⌝ }
+{
+    let mut k = 0;
+    while k < body.len() {
+        matrix[at + k] = body[k] as u16;
+        k += 1;
     }
-    starts
 }
 
 // Marks column j at the rows of its body.
@@ -47,40 +49,39 @@ fn mark_column(cover: &mut [u8; 16384], body: &[u8], j: usize)
     }
 }
 
-// A table of 64 rows of 256 columns, without marks.
-fn no_marks() -> [u8; 16384]
-    ensures { λ r. ⌜ ((k : ℕ) → k < 16384 → getD r k 0 ≡ 0) ⌝ }
+// Puts the bodies and where they start into the list, and marks which row is covered by which column.
+fn put_bodies(matrix: &mut [u16; 8516], cover: &mut [u8; 16384], lengths: &[u16], numbers: &[u8])
+    requires { ⌜ Room (now lengths) (now numbers) ⌝ }
+    ensures { λ _. ⌜ now (matrix .exit) ≡ put (now (matrix .entry)) 67 324 (bodies (now (lengths .entry)) (now (numbers .entry))) ⌝ }
+    ensures { λ _. ⌜ now (cover .exit) ≡ allMarked 0 (bodies (now (lengths .entry)) (now (numbers .entry))) (now (cover .entry)) ⌝ }
 {
-    [0u8; 16384]
-}
-
-// Which row is covered by which column.
-fn cover_table(rows: usize, columns: usize, starts: &[u16; 257], numbers: &[u8]) -> [u8; 16384]
-    requires { ⌜ SomeColumns rows columns (now starts) (now numbers) ⌝ }
-    ensures { λ r. ⌜ ((p : Instance) → Counts p rows columns → ByColumn p (now (starts .entry)) (now (numbers .entry)) → Covers p columns r) ⌝ }
-{
-    let mut cover = no_marks();
+    let columns = lengths.len();
+    let mut start = 0;
     let mut j = 0;
     while j < columns {
-        let start = starts[j] as usize;
-        let end = starts[j + 1] as usize;
-        mark_column(&mut cover, &numbers[start..end], j);
+        let at = 324 + start;
+        matrix[67 + j] = at as u16;
+        let end = start + lengths[j] as usize;
+        let body = &numbers[start..end];
+        put_body(matrix, at, body);
+        mark_column(cover, body, j);
+        start = end;
         j += 1;
     }
-    cover
+    matrix[67 + columns] = (324 + start) as u16;
 }
 
-// Writes the columns that are marked in a row, from a place on, and gives the place after them.
-fn collect_row(
+// Puts the columns that are marked in a row into the list, from a place on, and gives the place after them.
+fn put_row(
+    matrix: &mut [u16; 8516],
+    at: usize,
     cover: &[u8; 16384],
     columns: usize,
     row: usize,
-    entries: &mut [u8; 4096],
-    at: usize,
 ) -> usize
-    requires { ⌜ (columns ≤ 256) × (row < 64) × (at + length (marksOf (now cover) columns row) ≤ 4096) ⌝ }
+    requires { ⌜ (columns ≤ 256) × (row < 64) × (at + length (marksOf (now cover) columns row) ≤ 8516) ⌝ }
     ensures { λ r. ⌜ r ≡ at + length (marksOf (now (cover .entry)) columns row) ⌝ }
-    ensures { λ r. ⌜ now (entries .exit) ≡ sets (now (entries .entry)) at (marksOf (now (cover .entry)) columns row) ⌝ }
+    ensures { λ r. ⌜ now (matrix .exit) ≡ sets (now (matrix .entry)) at (marksOf (now (cover .entry)) columns row) ⌝ }
 {
     let mut end = at;
     let mut j = 0;
@@ -88,58 +89,42 @@ fn collect_row(
         let column = j;
         j += 1;
         if cover[256 * row + column] == 1 {
-            entries[end] = column as u8;
+            matrix[end] = column as u16;
             end += 1;
         }
     }
     end
 }
 
-// The columns of all rows, one row after another, and where each row starts.
-pub struct RowLists {
-    pub heads: [u16; 65],
-    pub entries: [u8; 4096],
-}
-
-// Places for the columns of all rows.
-fn no_entries() -> [u8; 4096] {
-    [0u8; 4096]
-}
-
-// Places for the starts of the rows, all 0.
-fn no_heads() -> [u16; 65]
-    ensures { λ r. ⌜ getD r 0 0 ≡ 0 ⌝ }
+// Puts the marked columns of all rows, and where each row starts, into the list.
+fn put_rows(matrix: &mut [u16; 8516], at: usize, cover: &[u8; 16384], columns: usize, rows: usize)
+    requires { ⌜ RowRoom (now cover) columns rows at ⌝ }
+    ensures { λ _. ⌜ now (matrix .exit) ≡ put (now (matrix .entry)) 2 at (allMarks (now (cover .entry)) columns rows) ⌝ }
 {
-    [0u16; 65]
-}
-
-// The marked columns of all rows.
-fn collect_rows(cover: &[u8; 16384], columns: usize, rows: usize) -> RowLists
-    requires { ⌜ (columns ≤ 256) × (rows ≤ 64) × (total rows (λ i. length (marksOf (now cover) columns i)) ≤ 4096) ⌝ }
-    ensures { λ r. ⌜ Rows (now (cover .entry)) columns rows r ⌝ }
-{
-    let mut heads = no_heads();
-    let mut entries = no_entries();
-    let mut end = 0;
+    let mut end = at;
     let mut i = 0;
     while i < rows {
-        end = collect_row(cover, columns, i, &mut entries, end);
+        matrix[2 + i] = end as u16;
+        end = put_row(matrix, end, cover, columns, i);
         i += 1;
-        heads[i] = end as u16;
     }
-    RowLists {
-        heads: heads,
-        entries: entries,
-    }
+    matrix[2 + rows] = end as u16;
 }
 
-// The rows of a matrix that is kept by columns.
-pub fn by_rows(rows: usize, columns: usize, starts: &[u16; 257], numbers: &[u8]) -> RowLists
-    requires { ⌜ SomeColumns rows columns (now starts) (now numbers) ⌝ }
-    ensures { λ r. ⌜ ((p : Instance) → Counts p rows columns → ByColumn p (now (starts .entry)) (now (numbers .entry)) → ByRow p (now (starts .entry)) (r .heads) (r .entries)) ⌝ }
+// The list that keeps the matrix that lists state.
+pub fn matrix_list(rows: usize, lengths: &[u16], numbers: &[u8]) -> [u16; 8516]
+    requires { ⌜ Statable rows (now lengths) (now numbers) ⌝ }
+    ensures { λ r. ⌜ Holds r (stated rows (now (lengths .entry)) (now (numbers .entry))) ⌝ }
 {
-    let cover = cover_table(rows, columns, starts, numbers);
-    collect_rows(&cover, columns, rows)
+    let columns = lengths.len();
+    let end = 324 + numbers.len();
+    let mut matrix = no_cells();
+    let mut cover = no_marks();
+    matrix[0] = rows as u16;
+    matrix[1] = columns as u16;
+    put_bodies(&mut matrix, &mut cover, lengths, numbers);
+    put_rows(&mut matrix, end, &cover, columns, rows);
+    matrix
 }
 
 // Sets the first n marks of a list to 1.
@@ -155,14 +140,14 @@ fn set_marks(marks: &mut [u8], n: usize)
 }
 
 // The root: all rows open, all columns free at the given costs, and bound 0.
-pub fn root_node(rows: usize, columns: usize, costs: [u32; 256]) -> Node
-    requires { ⌜ (rows ≤ 64) × (columns ≤ 256) ⌝ }
-    ensures { λ r. ⌜ ((p : Instance) → Counts p rows columns → costs ≡ table 256 (λ j. getD (p .costs) j 0) → r ≡ root p) ⌝ }
+pub fn root_node(matrix: &[u16], costs: [u32; 256]) -> Node
+    requires { ⌜ Kept (now matrix) ⌝ }
+    ensures { λ r. ⌜ r ≡ root (matrixIn (now (matrix .entry))) costs ⌝ }
 {
     let mut column = [0u8; 256];
-    set_marks(&mut column, columns);
+    set_marks(&mut column, node::column_count(matrix));
     let mut row = [0u8; 64];
-    set_marks(&mut row, rows);
+    set_marks(&mut row, node::row_count(matrix));
     Node {
         cost: costs,
         column: column,

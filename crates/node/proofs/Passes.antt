@@ -11,7 +11,7 @@ use lib.Seq.{take-all}
 use borrow.Author.Tests.{eq-eqb, ne-eqb}
 use Rattle.node.specs.declared.Node.{Node}
 use Rattle.node.specs.Lists.{keep, from, member, pick}
-use Rattle.node.specs.Instance.{Instance}
+use Rattle.node.specs.Stored.{matrixIn, Kept, HasRow}
 use Rattle.node.specs.Node.{isOpen, openRows}
 use Rattle.node.specs.Passes.{carry, better, follow, bestIn}
 use Rattle.node.proofs.Members.{here, there, keep-short, keep-all}
@@ -84,28 +84,44 @@ module _ {A : Type 0} (told : List ℕ → A) (t : ℕ → Bool) (l : List ℕ) 
   telling-end h = w .is ∙ ap (λ (m : List ℕ). told (keep t m)) (take-all k l h)
 
 -- the open rows from i on
-abbrev pub openFrom : ℕ → Node → ℕ → List ℕ
+abbrev openFrom : ℕ → Node → ℕ → List ℕ
 openFrom rows s i = keep (isOpen s) (from (rows - i) i)
 
-pub open-all : (p : Instance) (s : Node) (rows : ℕ) → rows ≡ p .rows → openFrom rows s 0 ≡ openRows p s
+-- at row i of a pass over the open rows of a kept matrix, which comes to `whole`
+pub record Passing {A : Type 0} (f : A → ℕ → A) (whole : A) (l : List ℕ) (s : Node) (rows : ℕ) (a : A) (i : ℕ) : Type 0 where
+  pub kept : Kept l
+  pub rows-is : rows ≡ matrixIn l .rows
+  pub left : carry f a (openFrom rows s i) ≡ whole
+
+pub passing-start : {A : Type 0} (f : A → ℕ → A) (whole : A) (l : List ℕ) (s : Node) (rows : ℕ) (a : A) → Kept l → rows ≡ matrixIn l .rows →
+    carry f a (openRows (matrixIn l) s) ≡ whole → Passing f whole l s rows a 0
 unfolding openRows
-open-all p s rows e = rw (sub-zero, e)
+passing-start f whole l s rows a k e h = record { kept = k; rows-is = e; left = rw (sub-zero, e) h }
 
--- a pass over the open rows, at row i
-module _ {A : Type 0} (f : A → ℕ → A) (rows : ℕ) (s : Node) (a : A) (i : ℕ) where
-  pub carry-open : i < rows → getD (s .row) i 0 ≡ 1 → carry f (f a i) (openFrom rows s (i + 1)) ≡ carry f a (openFrom rows s i)
-  unfolding carry keep
-  carry-open h e = rw (from-next rows i h, eq-eqb (getD (s .row) i 0) 1 e)
+module _ {A : Type 0} {f : A → ℕ → A} {whole : A} {l : List ℕ} {s : Node} {rows : ℕ} {a : A} {i : ℕ} (w : Passing f whole l s rows a i) where
+  module _ (inside : i < rows) where
+    pub passing-row : HasRow l i
+    passing-row = record { kept = w .kept; row = omega (arith, w .rows-is) }
 
-  pub carry-closed : i < rows → (getD (s .row) i 0 ≡ 1 → ⊥) → carry f a (openFrom rows s (i + 1)) ≡ carry f a (openFrom rows s i)
-  unfolding keep
-  carry-closed h e = rw (from-next rows i h, ne-eqb (getD (s .row) i 0) 1 e)
+    pub passing-open : getD (s .row) i 0 ≡ 1 → (next : A) → next ≡ f a i → Passing f whole l s rows next (i + 1)
+    unfolding carry keep
+    passing-open h next e = record {
+      kept = w .kept;
+      rows-is = w .rows-is;
+      left = rw e (rw (from-next rows i inside, eq-eqb (getD (s .row) i 0) 1 h) at (w .left));
+    }
 
-  pub carry-none : rows ≤ i → a ≡ carry f a (openFrom rows s i)
+    pub passing-closed : (getD (s .row) i 0 ≡ 1 → ⊥) → Passing f whole l s rows a (i + 1)
+    unfolding keep
+    passing-closed h = record {
+      kept = w .kept;
+      rows-is = w .rows-is;
+      left = rw (from-next rows i inside, ne-eqb (getD (s .row) i 0) 1 h) at (w .left);
+    }
+
+  pub passing-end : rows ≤ i → a ≡ whole
   unfolding carry keep from
-  carry-none h =
-      let z : rows - i ≡ 0 = omega arith in
-      rw z
+  passing-end h = let z : rows - i ≡ 0 = omega arith in rw z at (w .left)
 
 -- a new best, and one that stays
 pub better-so : {A : Type 0} (before : A → A → Bool) (b a : A) (t : Bool) → t ≡ before a b → t ≡ true → a ≡ better before b a

@@ -1,6 +1,6 @@
 -- Taking a column: a body closes its own rows and no other; a mark changes to 0 where it was 1 and the column is in one of these rows,
 -- that is, where it shares a row with the column taken.
-use mathlib.Core.Path.{_≡_, refl, ap, sym, _∙_}
+use mathlib.Core.Path.{_≡_, refl, ap, _∙_}
 use mathlib.Core.Bool.{Bool, true, false, cond, _&&_, _||_, false≢true, or-true}
 use mathlib.Core.List.{List, [], _∷_}
 use mathlib.Core.Logic.{⊎-elim}
@@ -12,15 +12,15 @@ use lib.Dec.{eqb}
 use borrow.Author.Tests.{eqb-true, eqb-false, eq-eqb, ne-eqb}
 use Rattle.node.specs.declared.Node.{Node}
 use Rattle.node.specs.Lists.{member, table}
-use Rattle.node.specs.Instance.{Instance, width, body, covers, meets}
+use Rattle.node.specs.Matrix.{Matrix, width, body, covers, meets}
 use Rattle.node.specs.Node.{mark, isFree, costAt, take, leave}
-use Rattle.node.specs.Stored.{Body, partAt, ByColumn, ByRow, SomeBody, IsRow, IsBody}
+use Rattle.node.specs.Stored.{Small, matrixIn, Body, HasBody, rowColumns}
 use Rattle.node.specs.Passes.{carry}
 use Rattle.node.specs.Taking.{closed, dropped, allDropped, rowsDropped, Takes}
 use Rattle.node.proofs.Members.{same-bool, here, there, member-cases}
 use Rattle.node.proofs.Loops.{table-ext}
 use Rattle.node.proofs.Shares.{meets-at, meets-of}
-use Rattle.node.proofs.Parts.{row-at, body-row, body-rows, body-in-rows, row-covers}
+use Rattle.node.proofs.Parts.{body-rows, body-in-rows, row-covers}
 
 -- a place of a list with one place set
 set-at : (l : List ℕ) (n j v k : ℕ) → length l ≡ n → k < n → getD (set l j v) k 0 ≡ cond (eqb k j) v (getD l k 0)
@@ -38,13 +38,6 @@ dropped-free column j h = rw (eq-eqb (getD column j 0) 1 h)
 pub dropped-other : (column : List ℕ) (j : ℕ) → (getD column j 0 ≡ 1 → ⊥) → column ≡ dropped column j
 unfolding dropped
 dropped-other column j h = rw (ne-eqb (getD column j 0) 1 h)
-
--- a row of a body is a part of the entries
-pub row-dropped : (heads entries rs : List ℕ) → SomeBody heads entries rs → (k : ℕ) → k < length rs → (row column out : List ℕ) →
-    IsRow heads entries (getD rs k 0 - 1) row → out ≡ allDropped row column → out ≡ allDropped (partAt heads entries (getD rs k 0 - 1)) column
-row-dropped heads entries rs some k l row column out is e =
-    let t = body-row heads entries rs some k l in
-    e ∙ ap (λ (r : List ℕ). allDropped r column) (is (t .p) (t .starts) (t .kept) (t .row) ∙ sym (row-at heads entries _ t .is))
 
 -- the closed rows, place by place
 length-closed : (rs row : List ℕ) → length (closed rs row) ≡ length row
@@ -126,84 +119,74 @@ all-at (j ∷ js) column l k b =
     ∙ rw (dropped-at column j l k b) (gone-twice (eqb k j) (member k js) (getD column k 0))
 
 -- column k is in one of the rows of a body
-unfoldable inRows : List ℕ → List ℕ → List ℕ → ℕ → Bool
-inRows heads entries [] k = false
-inRows heads entries (r ∷ rs) k = member k (partAt heads entries (r - 1)) || inRows heads entries rs k
+module _ (p : Matrix) where
+  unfoldable inRows : List ℕ → ℕ → Bool
+  inRows [] k = false
+  inRows (r ∷ rs) k = covers p (r - 1) k || inRows rs k
 
-module _ (heads entries : List ℕ) where
-  length-rows : (rs column : List ℕ) → length (rowsDropped heads entries rs column) ≡ length column
+  length-rows : (rs column : List ℕ) → length (rowsDropped p rs column) ≡ length column
   unfolding carry
   length-rows [] column = refl
-  length-rows (r ∷ rs) column =
-      length-rows rs (allDropped (partAt heads entries (r - 1)) column) ∙ length-all (partAt heads entries (r - 1)) column
+  length-rows (r ∷ rs) column = length-rows rs (allDropped (rowColumns p (r - 1)) column) ∙ length-all (rowColumns p (r - 1)) column
 
   rows-at : (rs column : List ℕ) → length column ≡ 256 → (k : ℕ) → k < 256 →
-      getD (rowsDropped heads entries rs column) k 0 ≡ gone (inRows heads entries rs k) (getD column k 0)
+      getD (rowsDropped p rs column) k 0 ≡ gone (inRows rs k) (getD column k 0)
   unfolding carry inRows
   rows-at [] column l k b = gone-not (getD column k 0)
   rows-at (r ∷ rs) column l k b =
-      let part : List ℕ = partAt heads entries (r - 1) in
-      rows-at rs (allDropped part column) (length-all part column ∙ l) k b
-      ∙ rw (all-at part column l k b) (gone-twice (member k part) (inRows heads entries rs k) (getD column k 0))
+      let row : List ℕ = rowColumns p (r - 1) in
+      rows-at rs (allDropped row column) (length-all row column ∙ l) k b
+      ∙ rw (all-at row column l k b, row-covers p (r - 1) k) (gone-twice (covers p (r - 1) k) (inRows rs k) (getD column k 0))
 
-  in-rows : (rs : List ℕ) (r k : ℕ) → member r rs ≡ true → member k (partAt heads entries (r - 1)) ≡ true → inRows heads entries rs k ≡ true
+  in-rows : (rs : List ℕ) (r k : ℕ) → member r rs ≡ true → covers p (r - 1) k ≡ true → inRows rs k ≡ true
   unfolding inRows member
   in-rows [] r k m h = absurd (false≢true m)
   in-rows (x ∷ rs) r k m h =
-      ⊎-elim (λ e. rw (← e, h)) (λ g. rw (in-rows rs r k g h) (or-true (member k (partAt heads entries (x - 1))))) (member-cases r x rs m)
+      ⊎-elim (λ e. rw (← e, h)) (λ g. rw (in-rows rs r k g h) (or-true (covers p (x - 1) k))) (member-cases r x rs m)
 
-  rows-in : (rs : List ℕ) (k : ℕ) → inRows heads entries rs k ≡ true →
-      (r : ℕ) × (member r rs ≡ true) × (member k (partAt heads entries (r - 1)) ≡ true)
+  rows-in : (rs : List ℕ) (k : ℕ) → inRows rs k ≡ true → (r : ℕ) × (member r rs ≡ true) × (covers p (r - 1) k ≡ true)
   unfolding inRows
   rows-in [] k h = absurd (false≢true h)
-  rows-in (x ∷ rs) k h = go (member k (partAt heads entries (x - 1))) refl h (rows-in rs k)
+  rows-in (x ∷ rs) k h = go (covers p (x - 1) k) refl h (rows-in rs k)
     where
-      go : (b : Bool) → member k (partAt heads entries (x - 1)) ≡ b → (b || inRows heads entries rs k) ≡ true →
-          (inRows heads entries rs k ≡ true → (r : ℕ) × (member r rs ≡ true) × (member k (partAt heads entries (r - 1)) ≡ true)) →
-          (r : ℕ) × (member r (x ∷ rs) ≡ true) × (member k (partAt heads entries (r - 1)) ≡ true)
+      go : (b : Bool) → covers p (x - 1) k ≡ b → (b || inRows rs k) ≡ true →
+          (inRows rs k ≡ true → (r : ℕ) × (member r rs ≡ true) × (covers p (r - 1) k ≡ true)) →
+          (r : ℕ) × (member r (x ∷ rs) ≡ true) × (covers p (r - 1) k ≡ true)
       go true e g f = (x, here x rs, e)
       go false e g f = let m = f g in (m .0, there (m .0) x rs (m .1), m .2)
 
-module _ (p : Instance) (starts heads entries : List ℕ) (kept : ByRow p starts heads entries) where
-  -- the columns of a row are those that cover it
-  in-row : (i k : ℕ) → i < p .rows → member k (partAt heads entries i) ≡ covers p i k
-  in-row i k l = rw (kept .row i l .is) (row-covers p (kept .small) i k)
-
   -- so the columns in the rows of a body are those that meet it
-  rows-meet : (j k : ℕ) → j < width p → inRows heads entries (body p j) k ≡ meets p j k
+  rows-meet : Small p → (j k : ℕ) → j < width p → inRows (body p j) k ≡ meets p j k
   unfolding covers
-  rows-meet j k l =
-      same-bool (inRows heads entries (body p j) k) (meets p j k)
+  rows-meet small j k l =
+      same-bool (inRows (body p j) k) (meets p j k)
       (λ h.
-      let m = rows-in heads entries (body p j) k h in
+      let m = rows-in (body p j) k h in
       let r : ℕ = m .0 in
-      let n = kept .small .numbered j r l (m .1) in
+      let n = small .numbered j r l (m .1) in
       let e : suc (r - 1) ≡ r = omega (arith, n .0) in
-      let i : r - 1 < p .rows = omega (arith, n .0, n .1) in
-      meets-of p (r - 1) j k i (rw e (m .1)) (sym (in-row (r - 1) k i) ∙ m .2))
+      meets-of p (r - 1) j k (omega (arith, n .0, n .1)) (rw e (m .1)) (m .2))
       (λ h.
       let m = meets-at p j k h in
       let e : suc (m .0) - 1 ≡ m .0 = omega arith in
-      in-rows heads entries (body p j) (suc (m .0)) k (m .2) (rw e (in-row (m .0) k (m .1) ∙ m .3)))
+      in-rows (body p j) (suc (m .0)) k (m .2) (rw e (m .3)))
 
   -- the node with column j taken, whose body is rs
-  pub taken-is : (numbers : List ℕ) → ByColumn p starts numbers → (s : Node) (j : ℕ) → j < width p → length (s .column) ≡ 256 →
-      length (s .row) ≡ 64 → (rs : List ℕ) → IsBody starts numbers j rs → (column row : List ℕ) → row ≡ closed rs (s .row) →
-      column ≡ rowsDropped heads entries rs (s .column) →
+  pub taken-is : Small p → (s : Node) (j : ℕ) → j < width p → length (s .column) ≡ 256 → length (s .row) ≡ 64 →
+      (rs : List ℕ) → rs ≡ body p j → (column row : List ℕ) → row ≡ closed rs (s .row) → column ≡ rowsDropped p rs (s .column) →
       record { cost = s .cost; column = set column j 2; row = row; bound = s .bound + costAt s j } ≡ take p s j (s .bound + costAt s j)
   unfolding take gone covers
-  taken-is numbers by s j l cl rl rs told column row re ce =
-      let is : rs ≡ body p j = told p by l in
-      let n : length column ≡ 256 = ap length ce ∙ length-rows heads entries rs (s .column) ∙ cl in
+  taken-is small s j l cl rl rs is column row re ce =
+      let n : length column ≡ 256 = ap length ce ∙ length-rows rs (s .column) ∙ cl in
       let f : ℕ → ℕ = λ k. cond (eqb k j) 2 (cond (isFree s k && meets p j k) 0 (mark s k)) in
       let g : ℕ → ℕ = λ i. cond (covers p i j) 0 (getD (s .row) i 0) in
       let a : set column j 2 ≡ table 256 f =
       table-ext 256 f (set column j 2) (length-set column j 2 ∙ n)
       (λ k b. set-at column 256 j 2 k n b
-      ∙ rw (ce, is, rows-at heads entries (body p j) (s .column) cl k b, rows-meet j k l)) in
+      ∙ rw (ce, is, rows-at (body p j) (s .column) cl k b, rows-meet small j k l)) in
       let b : row ≡ table 64 g =
       table-ext 64 g row (ap length re ∙ length-closed rs (s .row) ∙ rl)
-      (λ i b. rw (re, is) (closed-at (body p j) (s .row) (body-rows p (kept .small) j l) rl i b)) in
+      (λ i b. rw (re, is) (closed-at (body p j) (s .row) (body-rows p small j l) rl i b)) in
       rw (a, b)
 
 pub left-is : (s : Node) (j : ℕ) → length (s .column) ≡ 256 →
@@ -214,14 +197,9 @@ left-is s j l =
     rw (table-ext 256 f (set (s .column) j 0) (length-set (s .column) j 0 ∙ l) (λ k b. set-at (s .column) 256 j 0 k l b))
 
 -- what the steps of taking ask of the body rs
-module _ (s : Node) (j : ℕ) (starts numbers heads entries : List ℕ) (t : Takes s j starts numbers heads entries)
-    (rs : List ℕ) (told : IsBody starts numbers j rs) where
-  is : rs ≡ body (t .p) j
-  is = told (t .p) (t .by-column) (t .column)
-
+module _ (s : Node) (j : ℕ) (l : List ℕ) (t : Takes s j l) (rs : List ℕ) (is : rs ≡ body (matrixIn l) j) where
   pub taken-body : Body rs
-  taken-body = rw is (body-rows (t .p) (t .by-row .small) j (t .column))
+  taken-body = rw is (body-rows (matrixIn l) (t .kept .small) j (t .column))
 
-  pub taken-rows : SomeBody heads entries rs
-  taken-rows =
-      record { p = t .p; starts = starts; kept = t .by-row; numbered = rw is (body-in-rows (t .p) (t .by-row .small) j (t .column)) }
+  pub taken-rows : HasBody l rs
+  taken-rows = record { kept = t .kept; numbered = rw is (body-in-rows (matrixIn l) (t .kept .small) j (t .column)) }

@@ -6,9 +6,9 @@ use lib.ListN.{getD, set}
 use lib.Dec.{eqb}
 use Rattle.node.specs.declared.Node.{Node}
 use Rattle.node.specs.Passes.{carry}
-use Rattle.node.specs.Instance.{Instance, width}
+use Rattle.node.specs.Matrix.{Matrix, width}
 use Rattle.node.specs.Node.{costAt}
-use Rattle.node.specs.Stored.{partAt, ByColumn, ByRow}
+use Rattle.node.specs.Stored.{matrixIn, Kept, rowColumns}
 
 -- the rows of a body closed
 abbrev pub closed : List ℕ → List ℕ → List ℕ
@@ -23,13 +23,11 @@ abbrev pub allDropped : List ℕ → List ℕ → List ℕ
 allDropped js column = carry dropped column js
 
 -- the free columns of the rows of a body out
-abbrev pub rowsDropped : List ℕ → List ℕ → List ℕ → List ℕ → List ℕ
-rowsDropped heads entries rs column = carry (λ marks r. allDropped (partAt heads entries (r - 1)) marks) column rs
+abbrev pub rowsDropped : Matrix → List ℕ → List ℕ → List ℕ
+rowsDropped p rs column = carry (λ marks r. allDropped (rowColumns p (r - 1)) marks) column rs
 
--- some instance is kept so, column j is one of its columns, and its cost can be added to the bound
-pub record Takes (s : Node) (j : ℕ) (starts numbers heads entries : List ℕ) : Type 0 where
-  pub p : Instance
-  pub by-column : ByColumn p starts numbers
-  pub by-row : ByRow p starts heads entries
-  pub column : j < width p
+-- a kept matrix has a column j, and its cost can be added to the bound
+pub record Takes (s : Node) (j : ℕ) (l : List ℕ) : Type 0 where
+  pub kept : Kept l
+  pub column : j < width (matrixIn l)
   pub room : s .bound + costAt s j < 4294967296

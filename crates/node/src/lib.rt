@@ -1,14 +1,15 @@
 // The node that the code passes by value, and the steps that decide a column. The definitions are in specs/.
 ghost use mathlib.Core.Path.{_≡_};
-ghost use Prim.Native.Nat.{_+_, _<_};
-ghost use Rattle.node.specs.Instance.{Instance, width};
+ghost use Prim.Native.Nat.{_+_, _≤_, _<_};
+ghost use lib.ListN.{length};
+ghost use Rattle.node.specs.Matrix.{width, body, span};
 ghost use Rattle.node.specs.Node.{costAt, take, leave};
-ghost use Rattle.node.specs.Stored.{Body, ByColumn, ByRow, SomeRow, SomeBody, KeptColumn, IsRow, IsBody};
+ghost use Rattle.node.specs.Stored.{partAt, matrixIn, Part, Kept, HasRow, HasColumn, HasBody, Columns, Body, rowColumns};
 ghost use Rattle.node.specs.Taking.{closed, allDropped, rowsDropped, Takes};
 
 // A node of the tree (01: its open sailings, free duties and present prices, its taken duties and its floor).
 pub struct Node {
-    // The present cost of each column, 0 from the instance's width on.
+    // The present cost of each column, 0 from the matrix's width on.
     pub cost: [u32; 256],
     // The mark of each column: 0 out, 1 free, 2 taken.
     pub column: [u8; 256],
@@ -18,28 +19,59 @@ pub struct Node {
     pub bound: u32,
 }
 
-// The columns of row i of a matrix: a part of its entries.
-pub fn row_part<'a>(heads: &[u16; 65], entries: &'a [u8], i: usize) -> &'a [u8]
-    requires { ⌜ SomeRow (now heads) (now entries) i ⌝ }
-    ensures { λ r. ⌜ IsRow (now (heads .entry)) (now (entries .entry)) i (now r) ⌝ }
+// How many rows a matrix has.
+pub fn row_count(matrix: &[u16]) -> usize
+    requires { ⌜ Kept (now matrix) ⌝ }
+    ensures { λ r. ⌜ r ≡ matrixIn (now (matrix .entry)) .rows ⌝ }
 {
-    let start = heads[i] as usize;
-    let end = heads[i + 1] as usize;
-    &entries[start..end]
+    matrix[0] as usize
 }
 
-// The body of column j of a matrix: a part of its row numbers.
-pub fn column_part<'a>(starts: &[u16; 257], numbers: &'a [u8], j: usize) -> &'a [u8]
-    requires { ⌜ KeptColumn (now starts) (now numbers) j ⌝ }
-    ensures { λ r. ⌜ IsBody (now (starts .entry)) (now (numbers .entry)) j (now r) ⌝ }
+// How many columns a matrix has.
+pub fn column_count(matrix: &[u16]) -> usize
+    requires { ⌜ Kept (now matrix) ⌝ }
+    ensures { λ r. ⌜ r ≡ width (matrixIn (now (matrix .entry))) ⌝ }
 {
-    let start = starts[j] as usize;
-    let end = starts[j + 1] as usize;
-    &numbers[start..end]
+    matrix[1] as usize
+}
+
+// The part of a matrix that starts where place k says.
+fn part(matrix: &[u16], k: usize) -> &[u16]
+    requires { ⌜ (k + 1 < length (now matrix)) × Part (now matrix) k ⌝ }
+    ensures { λ r. ⌜ now r ≡ partAt (now (matrix .entry)) k ⌝ }
+{
+    let start = matrix[k] as usize;
+    let end = matrix[k + 1] as usize;
+    &matrix[start..end]
+}
+
+// The columns of row i.
+pub fn row_part(matrix: &[u16], i: usize) -> &[u16]
+    requires { ⌜ HasRow (now matrix) i ⌝ }
+    ensures { λ r. ⌜ now r ≡ rowColumns (matrixIn (now (matrix .entry))) i ⌝ }
+{
+    part(matrix, 2 + i)
+}
+
+// The body of column j.
+pub fn column_part(matrix: &[u16], j: usize) -> &[u16]
+    requires { ⌜ HasColumn (now matrix) j ⌝ }
+    ensures { λ r. ⌜ now r ≡ body (matrixIn (now (matrix .entry))) j ⌝ }
+{
+    part(matrix, 67 + j)
+}
+
+// How many rows column j covers.
+pub fn column_size(matrix: &[u16], j: usize) -> u32
+    requires { ⌜ HasColumn (now matrix) j ⌝ }
+    ensures { λ r. ⌜ r ≡ span (matrixIn (now (matrix .entry))) j ⌝ }
+{
+    let body = column_part(matrix, j);
+    body.len() as u32
 }
 
 // Closes the rows of a body.
-fn close_rows(row: &mut [u8; 64], body: &[u8])
+fn close_rows(row: &mut [u8; 64], body: &[u16])
     requires { ⌜ Body (now body) ⌝ }
     ensures { λ _. ⌜ now (row .exit) ≡ closed (now (body .entry)) (now (row .entry)) ⌝ }
 {
@@ -52,7 +84,8 @@ fn close_rows(row: &mut [u8; 64], body: &[u8])
 }
 
 // Marks the free ones of some columns as out.
-fn drop_columns(column: &mut [u8; 256], columns: &[u8])
+fn drop_columns(column: &mut [u8; 256], columns: &[u16])
+    requires { ⌜ Columns (now columns) ⌝ }
     ensures { λ _. ⌜ now (column .exit) ≡ allDropped (now (columns .entry)) (now (column .entry)) ⌝ }
 {
     let mut k = 0;
@@ -66,14 +99,14 @@ fn drop_columns(column: &mut [u8; 256], columns: &[u8])
 }
 
 // Marks the free columns of the rows of a body as out.
-fn drop_rows(column: &mut [u8; 256], body: &[u8], heads: &[u16; 65], entries: &[u8])
-    requires { ⌜ SomeBody (now heads) (now entries) (now body) ⌝ }
-    ensures { λ _. ⌜ now (column .exit) ≡ rowsDropped (now (heads .entry)) (now (entries .entry)) (now (body .entry)) (now (column .entry)) ⌝ }
+fn drop_rows(column: &mut [u8; 256], body: &[u16], matrix: &[u16])
+    requires { ⌜ HasBody (now matrix) (now body) ⌝ }
+    ensures { λ _. ⌜ now (column .exit) ≡ rowsDropped (matrixIn (now (matrix .entry))) (now (body .entry)) (now (column .entry)) ⌝ }
 {
     let mut k = 0;
     while k < body.len() {
         let r = body[k] as usize;
-        let row = row_part(heads, entries, r - 1);
+        let row = row_part(matrix, r - 1);
         drop_columns(column, row);
         k += 1;
     }
@@ -82,21 +115,14 @@ fn drop_rows(column: &mut [u8; 256], body: &[u8], heads: &[u16; 65], entries: &[
 impl Node {
     // Column j taken (01: the step of forcing a duty): its cost joins the bound, its rows close, and every column that
     // covers one of them is no longer free.
-    pub fn take(
-        self,
-        j: usize,
-        starts: &[u16; 257],
-        numbers: &[u8],
-        heads: &[u16; 65],
-        entries: &[u8],
-    ) -> Node
-        requires { ⌜ Takes self j (now starts) (now numbers) (now heads) (now entries) ⌝ }
-        ensures { λ r. ⌜ ((p : Instance) → ByColumn p (now (starts .entry)) (now (numbers .entry)) → ByRow p (now (starts .entry)) (now (heads .entry)) (now (entries .entry)) → j < width p → r ≡ take p self j (self .bound + costAt self j)) ⌝ }
+    pub fn take(self, j: usize, matrix: &[u16]) -> Node
+        requires { ⌜ Takes self j (now matrix) ⌝ }
+        ensures { λ r. ⌜ r ≡ take (matrixIn (now (matrix .entry))) self j (self .bound + costAt self j) ⌝ }
     {
-        let body = column_part(starts, numbers, j);
+        let body = column_part(matrix, j);
         let mut n = self;
         close_rows(&mut n.row, body);
-        drop_rows(&mut n.column, body, heads, entries);
+        drop_rows(&mut n.column, body, matrix);
         n.column[j] = 2;
         let bound = self.bound + self.cost[j];
         n.bound = bound;

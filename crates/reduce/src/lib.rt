@@ -6,13 +6,9 @@ use lowering::reduce_node;
 use refusals::Check;
 use refusals::Refusal;
 ghost use mathlib.Core.Path.{_≡_};
-ghost use Prim.Native.Nat.{_≤_, _<_};
+ghost use Prim.Native.Nat.{_≤_};
 ghost use lib.ListN.{length, take};
 ghost use Rattle.refusals.specs.Refusals.{faultOf, filled, front};
-ghost use Rattle.node.specs.Instance.{Instance};
-ghost use Rattle.node.specs.Node.{root};
-ghost use Rattle.matrix.specs.Stated.{Stated, SomeStated};
-ghost use Rattle.lowering.specs.Done.{Done};
 ghost use Rattle.reduce.specs.Room.{Room};
 ghost use Rattle.reduce.specs.Answer.{reduceOutcome, reducing, reducedCosts, usedRows, listsFault};
 
@@ -28,25 +24,6 @@ pub struct Bound {
 pub enum ReduceAnswer {
     Reduced(Bound),
     Refused(Refusal),
-}
-
-// Reduces the root of the instance that lists state.
-fn reduce_lists(
-    rows: usize,
-    columns: usize,
-    costs: [u32; 256],
-    lengths: &[u16],
-    numbers: &[u8],
-) -> Reduction
-    requires { ⌜ SomeStated rows columns costs (now lengths) (now numbers) ⌝ }
-    ensures { λ r. ⌜ ((p : Instance) → Stated p rows columns costs (now (lengths .entry)) (now (numbers .entry)) → Done p (root p) r) ⌝ }
-{
-    let starts = matrix::column_starts(lengths);
-    let kept = matrix::by_rows(rows, columns, &starts, numbers);
-    let heads = kept.heads;
-    let entries = kept.entries;
-    let root = matrix::root_node(rows, columns, costs);
-    reduce_node(root, rows, &starts, &heads, &entries)
 }
 
 // 10, for lists of so many places.
@@ -100,10 +77,9 @@ pub fn reduce(file: &[u8], reduced: &mut [u32], order: &mut [u8]) -> ReduceAnswe
     ensures { λ r. ⌜ now (reduced .exit) ≡ filled (reduceOutcome r) (reducedCosts (now (file .entry))) (now (reduced .entry)) ⌝ }
     ensures { λ r. ⌜ now (order .exit) ≡ filled (reduceOutcome r) (usedRows (now (file .entry))) (now (order .entry)) ⌝ }
 {
+    let mut matrix = matrix::no_cells();
     let mut costs = lists::no_costs();
-    let mut lengths = lists::no_lengths();
-    let mut numbers = lists::no_numbers();
-    let found = lists::read_lists(file, &mut costs, &mut lengths, &mut numbers);
+    let found = lists::read_matrix(file, &mut matrix, &mut costs);
     match found {
         ReadAnswer::Refused(why) => ReduceAnswer::Refused(why),
         ReadAnswer::Accepted(shape) => {
@@ -111,16 +87,9 @@ pub fn reduce(file: &[u8], reduced: &mut [u32], order: &mut [u8]) -> ReduceAnswe
             match room {
                 Check::Failed(why) => ReduceAnswer::Refused(why),
                 Check::Passed => {
-                    let columns = shape.columns;
-                    let entries = shape.entries;
-                    let done = reduce_lists(
-                        shape.rows,
-                        columns,
-                        costs,
-                        &lengths[0..columns],
-                        &numbers[0..entries],
-                    );
-                    ReduceAnswer::Reduced(give(done, columns, reduced, order))
+                    let root = matrix::root_node(&matrix, costs);
+                    let done = reduce_node(root, &matrix);
+                    ReduceAnswer::Reduced(give(done, shape.columns, reduced, order))
                 }
             }
         }

@@ -1,15 +1,15 @@
 -- A step from a node s to a node t that decides free columns: each mark stays, or a free column is put out or taken.
 use mathlib.Core.Path.{_≡_, sym, _∙_}
 use mathlib.Core.Bool.{Bool, true, false, _&&_, true≢false}
-use Prim.Native.Nat.{ℕ, _+_, _<_}
+use Prim.Native.Nat.{ℕ, _+_, _≤_, _<_}
 use native.Mathlib.Omega.{arith}
 use lib.ListN.{length}
 use Rattle.node.specs.declared.Node.{Node}
 use Rattle.node.specs.Lists.{on, total, upto}
-use Rattle.node.specs.Instance.{Instance, width, covers, count}
+use Rattle.node.specs.Matrix.{Matrix, width, covers, count}
 use Rattle.node.specs.Node.{mark, isFree, isTaken, isOpen, freeColumns}
 use Rattle.rules.specs.Identity.{Completion}
-use Rattle.node.proofs.Members.{keep-lt, member-upto, upto-lt}
+use Rattle.node.proofs.Members.{keep-le, keep-lt, member-upto, upto-lt}
 use Rattle.rules.proofs.Sums.{total-add}
 use Rattle.rules.proofs.Plans.{Free, FreeIn, Sound, not-taken, not-both}
 
@@ -18,11 +18,23 @@ pub data Decided (s t : Node) (k : ℕ) : Type 0 where
   goes : isFree s k ≡ true → mark t k ≡ 0 → Decided s t k
   joins : isFree s k ≡ true → mark t k ≡ 2 → Decided s t k
 
+-- one step, and another after it
+pub decided-then : {s t u : Node} {k : ℕ} → Decided s t k → Decided t u k → Decided s u k
+decided-then (stays e) (stays f) = stays (f ∙ e)
+decided-then (stays e) (goes q f) = goes (rw e at q) f
+decided-then (stays e) (joins q f) = joins (rw e at q) f
+decided-then (goes q e) (stays f) = goes q (f ∙ e)
+decided-then (goes q e) (goes r f) = goes q f
+decided-then (goes q e) (joins r f) = joins q f
+decided-then (joins q e) (stays f) = joins q (f ∙ e)
+decided-then (joins q e) (goes r f) = goes q f
+decided-then (joins q e) (joins r f) = joins q f
+
 -- a value of the columns, summed over those that join
-abbrev pub gained : Instance → Node → Node → (ℕ → ℕ) → ℕ
+abbrev pub gained : Matrix → Node → Node → (ℕ → ℕ) → ℕ
 gained p s t f = total (width p) (λ k. on (isFree s k && isTaken t k) (f k))
 
-module _ (p : Instance) (s t : Node) (d : (k : ℕ) → k < width p → Decided s t k) where
+module _ (p : Matrix) (s t : Node) (d : (k : ℕ) → k < width p → Decided s t k) where
   -- the completions of t are those of s that do as t decides
   pub redo : (X : ℕ → Bool) → Completion p s X
       → ((k : ℕ) → k < width p → isFree s k ≡ true → isFree t k ≡ false → X k ≡ isTaken t k) → Completion p t X
@@ -70,7 +82,16 @@ module _ (p : Instance) (s t : Node) (d : (k : ℕ) → k < width p → Decided 
       go (goes q e) = q
       go (joins q e) = q
 
-  -- and it has fewer free columns
+  -- and it has no more free columns, or fewer
+  pub decided-le : length (freeColumns p t) ≤ length (freeColumns p s)
+  unfolding freeColumns
+  decided-le =
+      omega (
+        arith,
+        keep-le (isFree s) (isFree t) (upto (width p))
+            (λ k m h. still-free k (record { col = upto-lt (width p) k m; is-free = h }) .is-free),
+      )
+
   pub decided-less : (j : ℕ) → Free p s j → isFree t j ≡ false → length (freeColumns p t) < length (freeColumns p s)
   unfolding freeColumns
   decided-less j f n =

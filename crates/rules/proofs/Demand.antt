@@ -1,62 +1,78 @@
 -- Demand 3 holds of every instance and node limit, for any variant of the search that keeps its laws: the walk of lawful visits keeps
 -- only what is allowed and ends with the cheapest, and the answer says what it ended with.
-use mathlib.Core.Path.{_≡_, refl}
-use mathlib.Core.Bool.{Bool, true, false, false≢true, true≢false}
+use mathlib.Core.Path.{_≡_, refl, sym, _∙_}
+use mathlib.Core.Bool.{Bool, true, false, cond, false≢true, true≢false}
 use mathlib.Core.List.{List, [], _∷_}
 use mathlib.Core.Logic.{_↔_}
 use Prim.Native.Nat.{ℕ, zero, suc, _^_, _≤_, _<_}
 use native.Mathlib.Omega.{arith}
 use Rattle.node.specs.declared.Node.{Node}
-use Rattle.node.specs.Instance.{Instance, FitsNode, width, chosen, Shows}
+use Rattle.node.specs.Matrix.{Matrix, width, chosen, Shows}
+use Rattle.node.specs.Stored.{FitsNode}
 use Rattle.node.specs.Node.{openRows}
-use Rattle.rules.specs.Search.{Incumbent, nothing, Walk, enter, walk, nodes, after, Answer, best, none, stopped, shownBy}
+use borrow.Author.Tests.{le-ltb}
+use Rattle.rules.specs.declared.Forced.{Forced}
+use Rattle.rules.specs.Search.{Incumbent, nothing, Walk, enter, walk, lone, finished, answerBy, answerOf, nodes, after, Answer, best, none, stopped, shownBy}
 use Rattle.rules.specs.Search.{nodesOf, isNone, isStopped}
 use Rattle.rules.specs.Limited.{fresh, limited, answerFrom}
-use Rattle.rules.specs.Tree.{Variant, visit, fullTree, boundOf, rootBound, answer}
+use Rattle.rules.specs.Tree.{Variant, live, visit, fullTree, boundOf, rootBound, answer}
 use Rattle.rules.specs.Identity.{Completion}
 use Rattle.rules.specs.Demand.{Demand3}
-use Rattle.rules.proofs.Walks.{Valid, Report, walk-report, Meets, answer-meets, walk-step}
+use Rattle.rules.proofs.Walks.{Valid, Report, lone-report, walk-report, Meets, answer-meets, walk-step}
 use Rattle.rules.proofs.Limits.{answer-limited}
 use Rattle.rules.proofs.Rows.{size, size-fits}
 use Rattle.rules.proofs.Variants.{Lowered, Forces, Laws, lowered-comp}
 use Rattle.rules.proofs.Visits.{Completes, visit-law}
 
-module _ (p : Instance) (F : FitsNode p) (o : Variant) (Ok : (ℕ → Bool) → Type 0) (value : (ℕ → Bool) → ℕ) (Good : Node → Type 0)
-    (L : Laws p o Ok value Good) where
-  report : Report Ok value (Shows p Ok value) Good (size p) (Completes p Ok) (o .start) nothing (fullTree o p)
+module _ (p : Matrix) (F : FitsNode p) (o : Variant) (Ok : (ℕ → Bool) → Type 0) (value : (ℕ → Bool) → ℕ) (Good : Node → Type 0)
+    (start : Forced) (L : Laws p o start Ok value Good) where
+  report : Report Ok value (Shows p Ok value) Good (size p) (Completes p Ok) (start .node) nothing (fullTree o p start)
   unfolding fullTree
-  report =
-      walk-report Ok value (Shows p Ok value) Good (size p) (Completes p Ok) (visit o p) (visit-law p F o Ok value Good L)
-      (suc (width p)) (o .start) nothing (L .start-good) (size-fits p (o .start)) tt
+  report = go (start .alive) refl
+    where
+      s : Node
+      s = start .node
 
-  bound-low : (X : ℕ → Bool) → Ok X → rootBound o p ≤ value X
+      go : (b : Bool) → start .alive ≡ b → Report Ok value (Shows p Ok value) Good (size p) (Completes p Ok) s nothing
+          (cond b (walk (visit o p) (suc (width p)) s nothing) lone)
+      go true e =
+          walk-report Ok value (Shows p Ok value) Good (size p) (Completes p Ok) (visit o p) (visit-law p F o Ok value Good start L)
+          (suc (width p)) s nothing (L .start-good e) (size-fits p s) tt
+      go false e =
+          lone-report Ok value (Shows p Ok value) Good (size p) (Completes p Ok) s
+          (λ X c. true≢false (sym (L .start-comp X (c .0) .0) ∙ e))
+
+  bound-low : (X : ℕ → Bool) → Ok X → rootBound o p start ≤ value X
   unfolding rootBound boundOf
   bound-low X h = go (openRows p t)
     where
-      t : Node
-      t = o .settle (o .start) .node
+      s : Node
+      s = start .node
 
-      f : Forces p Ok Good (o .start) (o .settle (o .start))
-      f = L .forcing (o .start) (L .start-good)
+      t : Node
+      t = o .settle s .node
+
+      f : Forces p Ok Good s (o .settle s)
+      f = L .steps .forcing s (L .start-good (L .start-comp X h .0))
 
       c : Completion p t X
-      c = f .comp X h (L .start-comp X h) .1
+      c = f .comp X h (L .start-comp X h .1) .1
 
       go : (is : List ℕ) → boundOf o p t is ≤ value X
       go [] = L .low t (f .good) X c
       go (i ∷ is) =
           let u : Node = o .lowered t in
-          let r : Lowered p o Good t u = L .reducing t (f .good) in
+          let r : Lowered p o Good t u = L .steps .reducing t (f .good) in
           L .low u (r .good) X (lowered-comp p o Good t u r X c)
 
-  few-nodes : (n : ℕ) → width p ≡ n → 1 ≤ n → suc (nodes (fullTree o p)) ≤ 2 ^ n
+  few-nodes : (n : ℕ) → width p ≡ n → 1 ≤ n → suc (nodes (fullTree o p start)) ≤ 2 ^ n
   few-nodes zero e l = absurd (omega arith)
-  few-nodes (suc m) e l = report .few m (omega (arith, size-fits p (o .start)))
+  few-nodes (suc m) e l = report .few m (omega (arith, size-fits p (start .node)))
 
   -- the demand's sentences, by cases on the answer x
   module _ (limit : ℕ) where
     abbrev Holds : Answer → Type 0
-    Holds x = Meets Ok value (Shows p Ok value) (fullTree o p) (rootBound o p) limit x
+    Holds x = Meets Ok value (Shows p Ok value) (fullTree o p start) (rootBound o p start) limit x
 
     shows : (x : Answer) → Holds x → Valid Ok value (Shows p Ok value) (shownBy x)
     unfolding shownBy
@@ -70,34 +86,34 @@ module _ (p : Instance) (F : FitsNode p) (o : Variant) (Ok : (ℕ → Bool) → 
     nones (none n) m e = (λ h. m .no-plan, λ h. refl)
     nones (stopped k b n) m e = absurd (true≢false e)
 
-    stops : (x : Answer) → Holds x → (isStopped x ≡ true) ↔ (limit < nodes (fullTree o p))
+    stops : (x : Answer) → Holds x → (isStopped x ≡ true) ↔ (limit < nodes (fullTree o p start))
     unfolding isStopped
     stops (best c b n js) m = (λ h. absurd (false≢true h), λ l. absurd (omega (arith, m .within)))
     stops (none n) m = (λ h. absurd (false≢true h), λ l. absurd (omega (arith, m .within)))
     stops (stopped k b n) m = (λ h. m .beyond, λ l. refl)
 
-    at-limit : (x : Answer) → Holds x → isStopped x ≡ true → (nodesOf x ≡ limit) × (shownBy x ≡ after (fullTree o p) limit)
+    at-limit : (x : Answer) → Holds x → isStopped x ≡ true → (nodesOf x ≡ limit) × (shownBy x ≡ after (fullTree o p start) limit)
     unfolding isStopped nodesOf shownBy
     at-limit (best c b n js) m e = absurd (false≢true e)
     at-limit (none n) m e = absurd (false≢true e)
     at-limit (stopped k b n) m e = (m .count, m .kept)
 
-    counts : (x : Answer) → Holds x → isStopped x ≡ false → nodesOf x ≡ nodes (fullTree o p)
+    counts : (x : Answer) → Holds x → isStopped x ≡ false → nodesOf x ≡ nodes (fullTree o p start)
     unfolding isStopped nodesOf
     counts (best c b n js) m e = m .count
     counts (none n) m e = m .count
     counts (stopped k b n) m e = absurd (true≢false e)
 
-    holds : Holds (answer o p limit)
+    holds : Holds (answer o p start limit)
     unfolding answer
     holds =
-        answer-meets Ok value (Shows p Ok value) (fullTree o p) (rootBound o p) limit (report .falls)
-        (λ X h. report .cheapest X (h, L .start-comp X h))
+        answer-meets Ok value (Shows p Ok value) (fullTree o p start) (rootBound o p start) limit (report .falls)
+        (λ X h. report .cheapest X (h, L .start-comp X h .1))
 
-  pub demand-3 : (limit : ℕ) → Demand3 p o Ok value limit (answer o p limit)
+  pub demand-3 : (limit : ℕ) → Demand3 p o start Ok value limit (answer o p start limit)
   unfolding shownBy
   demand-3 limit =
-      let x : Answer = answer o p limit in
+      let x : Answer = answer o p start limit in
       let m : Holds limit x = holds limit in
       let is-best : (c b n : ℕ) (js : List ℕ) → x ≡ best c b n js → Holds limit (best c b n js) = λ c b n js e. rw e at m in
       let is-stopped : (k : Incumbent) (b n : ℕ) → x ≡ stopped k b n → Holds limit (stopped k b n) = λ k b n e. rw e at m in
@@ -122,11 +138,17 @@ module _ (p : Instance) (F : FitsNode p) (o : Variant) (Ok : (ℕ → Bool) → 
 
   pub tree-step : (s : Node) (k : Incumbent) → Good s → tree s k ≡ enter k (visit o p s k) tree
   tree-step s k g =
-      walk-step Ok value (Shows p Ok value) Good (size p) (Completes p Ok) (visit o p) (visit-law p F o Ok value Good L)
+      walk-step Ok value (Shows p Ok value) Good (size p) (Completes p Ok) (visit o p) (visit-law p F o Ok value Good start L)
       (suc (width p)) s k g (size-fits p s)
 
-  -- for the search: the tally of the walk within the limit gives the answer
-  pub limited-answer : (limit : ℕ)
-      → answerFrom (limited (visit o p) (suc (width p)) (o .start) (fresh limit)) (rootBound o p) ≡ answer o p limit
-  unfolding answer fullTree
-  limited-answer limit = answer-limited (visit o p) (suc (width p)) (o .start) (rootBound o p) limit
+-- for the search: the tally of the walk within the limit gives the answer
+pub limited-answer : (o : Variant) (p : Matrix) (s : Node) (limit : ℕ)
+    → answerFrom (limited (visit o p) (suc (width p)) s (fresh limit)) (rootBound o p (live s)) ≡ answer o p (live s) limit
+unfolding answer fullTree
+limited-answer o p s limit = answer-limited (visit o p) (suc (width p)) s (rootBound o p (live s)) limit
+
+-- a dead start: no plan, and one node
+pub dead-answer : (o : Variant) (p : Matrix) (start : Forced) → start .alive ≡ false → (limit : ℕ) → 1 ≤ limit
+    → answer o p start limit ≡ none 1
+unfolding answer fullTree answerOf answerBy finished
+dead-answer o p start e limit l = rw (e, le-ltb limit 1 l)

@@ -11,7 +11,8 @@ use lib.Dec.{eqb}
 use borrow.Author.Tests.{eqb-true, eq-eqb}
 use Rattle.node.specs.declared.Node.{Node}
 use Rattle.node.specs.Lists.{member, first}
-use Rattle.node.specs.Instance.{Instance, FitsNode, width}
+use Rattle.node.specs.Matrix.{Matrix, width}
+use Rattle.node.specs.Stored.{FitsNode}
 use Rattle.node.specs.Node.{freeOf, openRows, take}
 use Rattle.rules.specs.Force.{rowsWith, askedBy, asked, forceOn, forceBy, force}
 use Rattle.rules.specs.declared.Asked.{Asked}
@@ -20,7 +21,8 @@ use Rattle.rules.specs.declared.Forced.{Forced}
 use Rattle.rules.specs.Identity.{Completion}
 use Rattle.node.proofs.Members.{so, here, member-cases, kept, member-keep}
 use Rattle.rules.proofs.Plans.{Open, Free, FreeIn, Sound}
-use Rattle.rules.proofs.Steps.{take-comp, take-less}
+use Rattle.rules.proofs.Decide.{Decided, stays, decided-then}
+use Rattle.rules.proofs.Steps.{take-decides, take-comp, take-less}
 use Rattle.rules.proofs.Rows.{size, size-fits, open-in, in-open, free-in, in-free, some-free}
 
 one-of : (xs : List ℕ) → length xs ≡ 1 → xs ≡ first xs ∷ []
@@ -33,7 +35,7 @@ none-of : (xs : List ℕ) → length xs ≡ 0 → xs ≡ []
 none-of [] h = refl
 none-of (x ∷ xs) h = absurd (omega arith)
 
-module _ (p : Instance) where
+module _ (p : Matrix) where
   -- each open row has two free columns or more
   abbrev pub TwoFree : Node → Type 0
   TwoFree s = (i : ℕ) → Open p s i → 2 ≤ length (freeOf p s i)
@@ -86,7 +88,7 @@ module _ (p : Instance) where
       go : Asks s (Take j) → Free p s j
       go (i, o, q) = forced-free F s i o j q .free
 
-module _ (p : Instance) (F : FitsNode p) (join : Node → ℕ → ℕ) where
+module _ (p : Matrix) (F : FitsNode p) (join : Node → ℕ → ℕ) where
   -- for a loop: the fuel does not matter, so forcing is one step and then forcing
   force-on-same : (s : Node) (a : Asked) → Asks p s a → (w u : Node → Forced) → ((t : Node) → size p t < size p s → w t ≡ u t)
       → forceOn join a p s w ≡ forceOn join a p s u
@@ -115,17 +117,17 @@ module _ (p : Instance) (F : FitsNode p) (join : Node → ℕ → ℕ) where
     -- what forcing a node s comes to
     pub record Settles (s : Node) (r : Forced) : Type 0 where
       pub good : Good (r .node)
-      pub less : size p (r .node) ≤ size p s
       pub comp : (X : ℕ → Bool) → Completion p s X → (r .alive ≡ true) × Completion p (r .node) X
       pub two : r .alive ≡ true → TwoFree p (r .node)
+      pub decides : (k : ℕ) → k < width p → Decided s (r .node) k
 
     force-on : (s : Node) → Good s → (a : Asked) → Asks p s a
         → (w : Node → Forced) → ((t : Node) → Good t → size p t < size p s → Settles t (w t)) → Settles s (forceOn join a p s w)
     unfolding forceOn member
     force-on s g Dead (i, o, e) w q = record {
       good = g;
-      less = omega arith;
       two = λ h. absurd (false≢true h);
+      decides = λ k l. stays refl;
       comp = λ X c. absurd (some-free p s (sound s g) i o X c (λ k f x. false≢true (rw e at (in-free p s i k f))));
     }
     force-on s g (Take j) (i, o, e) w q =
@@ -134,11 +136,11 @@ module _ (p : Instance) (F : FitsNode p) (join : Node → ℕ → ℕ) where
         let r : Settles t (w t) = q t (taking s j f g) (take-less p F s j f (join s j)) in
         record {
           good = r .good;
-          less = omega (arith, r .less, take-less p F s j f (join s j));
           two = r .two;
+          decides = λ k l. decided-then (take-decides p F s j f (join s j) k l) (r .decides k l);
           comp = λ X c. r .comp X (forced-comp p F s i o j e (sound s g) (join s j) X c);
         }
-    force-on s g Settled h w q = record { good = g; less = omega arith; comp = λ X c. (refl, c); two = λ e. h }
+    force-on s g Settled h w q = record { good = g; comp = λ X c. (refl, c); two = λ e. h; decides = λ k l. stays refl }
 
     force-by : (f : ℕ) (s : Node) → Good s → size p s < f → Settles s (forceBy join f p s)
     unfolding forceBy

@@ -10,7 +10,8 @@ use lib.Dec.{ltb}
 use borrow.Author.Tests.{eqb-true, lt-ltb}
 use Rattle.node.specs.declared.Node.{Node}
 use Rattle.node.specs.Lists.{keep, on, total}
-use Rattle.node.specs.Instance.{Instance, FitsNode, width, covers, meets, count, IsPlan, chosen, columns}
+use Rattle.node.specs.Matrix.{Matrix, width, covers, meets, count, IsPlan, chosen, columns}
+use Rattle.node.specs.Stored.{FitsNode}
 use Rattle.node.specs.Node.{mark, isFree, isTaken, isOpen, costAt, root}
 use Rattle.rules.specs.Identity.{Completion, rest}
 use Rattle.node.proofs.Members.{and-both, not-so, at-table}
@@ -24,7 +25,7 @@ not-taken s k h = rw (eqb-true (mark s k) 1 h)
 pub not-both : (s : Node) (k : ℕ) → (isFree s k && isTaken s k) ≡ false
 not-both s k = not-so (λ h. let b = and-both h in true≢false (sym (b .1) ∙ not-taken s k (b .0)))
 
-module _ (p : Instance) where
+module _ (p : Matrix) where
   -- an open row, a free column, and a free column of a row
   pub record Open (s : Node) (i : ℕ) : Type 0 where
     pub row : i < p .rows
@@ -106,31 +107,31 @@ module _ (p : Instance) where
           absurd (omega (arith, total-two (width p) j k f a b n, h (r .0) (r .1)))
 
   -- the root's tables have a place for each row and column
-  module _ (F : FitsNode p) where
-    root-open : (i : ℕ) → i < p .rows → isOpen (root p) i ≡ true
+  module _ (F : FitsNode p) (cs : List ℕ) where
+    root-open : (i : ℕ) → i < p .rows → isOpen (root p cs) i ≡ true
     unfolding root
     root-open i l = rw (at-table 64 (λ i. on (ltb i (p .rows)) 1) i (omega (arith, F .tall)), lt-ltb i (p .rows) l)
 
-    pub root-free : (k : ℕ) → k < width p → isFree (root p) k ≡ true
+    pub root-free : (k : ℕ) → k < width p → isFree (root p cs) k ≡ true
     unfolding root
     root-free k l = rw (at-table 256 (λ j. on (ltb j (width p)) 1) k (omega (arith, F .wide)), lt-ltb k (width p) l)
 
-    pub root-cost : (k : ℕ) → k < width p → costAt (root p) k ≡ getD (p .costs) k 0
+    pub root-cost : (k : ℕ) → k < width p → costAt (root p cs) k ≡ getD cs k 0
     unfolding root
-    root-cost k l = at-table 256 (λ j. getD (p .costs) j 0) k (omega (arith, F .wide))
+    root-cost k l = at-table 256 (λ j. getD cs j 0) k (omega (arith, F .wide))
 
-    pub root-sound : Sound (root p)
+    pub root-sound : Sound (root p cs)
     unfolding count
     root-sound = record {
       open-free = λ i k l f. root-open i l;
       once = λ i l. rw (root-open i l) (omega (
         arith,
-        total-zero (width p) (λ k. on (isTaken (root p) k) (on (covers p i k) 1))
-            (λ k m. rw (not-taken (root p) k (root-free k m))),
+        total-zero (width p) (λ k. on (isTaken (root p cs) k) (on (covers p i k) 1))
+            (λ k m. rw (not-taken (root p cs) k (root-free k m))),
       ));
     }
 
-    pub root-comp : (X : ℕ → Bool) → IsPlan p X → Completion p (root p) X
+    pub root-comp : (X : ℕ → Bool) → IsPlan p X → Completion p (root p cs) X
     root-comp X h = record { plan = h; agrees = λ k l f. absurd (true≢false (sym (root-free k l) ∙ f)) }
 
   -- a plan has no more columns than there are rows, if each column covers a row

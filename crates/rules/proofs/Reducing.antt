@@ -10,7 +10,8 @@ use lib.Dec.{ltb}
 use borrow.Author.Tests.{ltb-true, lt-ltb, le-ltb}
 use Rattle.node.specs.declared.Node.{Node}
 use Rattle.node.specs.Lists.{member, least, pick, on, total}
-use Rattle.node.specs.Instance.{Instance, FitsNode, width, price, IsPlan}
+use Rattle.node.specs.Matrix.{Matrix, width, IsPlan, price}
+use Rattle.node.specs.Stored.{FitsNode}
 use Rattle.node.specs.Node.{isFree, isOpen, root, costAt, freeColumns, freeOf, openRows}
 use Rattle.rules.specs.Reduce.{leastOf, candidates, rowFirst, lower, Reduced, reduceOn, reduceBy, reduce}
 use Rattle.node.proofs.Members.{kept, member-keep, pick-member, least-le, least-at, least-mono, keep-lt, keep-short}
@@ -18,9 +19,14 @@ use Rattle.node.proofs.Members.{keep-upto}
 use Rattle.rules.proofs.Sums.{total-cong}
 use Rattle.rules.proofs.Plans.{Open, FreeIn, root-free}
 use Rattle.rules.proofs.Rows.{open-in, in-open, free-in, in-free}
-use Rattle.rules.proofs.Costs.{Good, root-good, lower-good, cost-lower}
+use Rattle.rules.proofs.Costs.{Good, Fair, root-good, lower-good, lower-fair, cost-lower}
 
-module _ (p : Instance) where
+-- what lowering a candidate keeps
+abbrev pub Lowers : Matrix → (Node → Type 0) → Type 0
+Lowers p G = (s : Node) (i a : ℕ) → G s → Open p s i → (j : ℕ) → FreeIn p s i j → ((k : ℕ) → FreeIn p s i k → a ≤ costAt s k) →
+    G (lower p s i a)
+
+module _ (p : Matrix) where
   -- how many rows can still be used
   abbrev pub pending : Node → ℕ
   pending s = length (candidates p s)
@@ -59,13 +65,13 @@ module _ (p : Instance) where
       go (x ∷ xs) h = omega arith
 
   -- the marks are as they were, and no row can be used
-  pub record Finished (s t : Node) : Type 0 where
-    pub good : Good p t
+  pub record Finished (G : Node → Type 0) (s t : Node) : Type 0 where
+    pub good : G t
     pub same-column : t .column ≡ s .column
     pub same-row : t .row ≡ s .row
     pub done : (i : ℕ) → Open p t i → leastOf p t i ≡ 0
 
-module _ (p : Instance) (F : FitsNode p) where
+module _ (p : Matrix) (F : FitsNode p) (G : Node → Type 0) (lowers : Lowers p G) where
   -- row b lowered by a
   module _ (s : Node) (b a : ℕ) where
     lower-open : openRows p (lower p s b a) ≡ openRows p s
@@ -87,10 +93,10 @@ module _ (p : Instance) (F : FitsNode p) where
     cheapest : (k : ℕ) × FreeIn p s b k × (leastOf p s b ≡ costAt s k)
     cheapest = least-free p s b (some-free p s b a)
 
-    least-good : Good p s → Good p (lower p s b (leastOf p s b))
+    least-good : G s → G (lower p s b (leastOf p s b))
     unfolding leastOf
     least-good g =
-        lower-good p F s b (leastOf p s b) g o (cheapest .0) (cheapest .1)
+        lowers s b (leastOf p s b) g o (cheapest .0) (cheapest .1)
         (λ k f. least-le (costAt s) (freeOf p s b) k (in-free p s b k f))
 
     lower-none : leastOf p (lower p s b (leastOf p s b)) b ≤ 0
@@ -130,7 +136,7 @@ module _ (p : Instance) (F : FitsNode p) where
     next : Node
     next = lower p s picked (leastOf p s picked)
 
-    next-good : Good p s → Good p next
+    next-good : G s → G next
     unfolding next
     next-good = least-good s picked (picked-cand .0) (picked-cand .1)
 
@@ -138,9 +144,9 @@ module _ (p : Instance) (F : FitsNode p) where
     unfolding next
     next-falls = least-falls s picked (picked-cand .0) (picked-cand .1)
 
-  reduce-on : (s : Node) → Good p s → (xs : List ℕ) → candidates p s ≡ xs → (us : List ℕ) (w : Node → List ℕ → Reduced)
-      → ((t : Node) (vs : List ℕ) → Good p t → pending p t < pending p s → Finished p t (w t vs .node))
-      → Finished p s (reduceOn xs p s us w .node)
+  reduce-on : (s : Node) → G s → (xs : List ℕ) → candidates p s ≡ xs → (us : List ℕ) (w : Node → List ℕ → Reduced)
+      → ((t : Node) (vs : List ℕ) → G t → pending p t < pending p s → Finished p G t (w t vs .node))
+      → Finished p G s (reduceOn xs p s us w .node)
   unfolding reduceOn member lower picked next
   reduce-on s g [] e us w q = record {
     good = g;
@@ -152,13 +158,13 @@ module _ (p : Instance) (F : FitsNode p) where
       let r = q (next s i is e) (us ++ (picked s i is e ∷ [])) (next-good s i is e g) (next-falls s i is e) in
       record { good = r .good; same-column = r .same-column; same-row = r .same-row; done = r .done }
 
-  reduce-by : (f : ℕ) (s : Node) (us : List ℕ) → Good p s → pending p s < f → Finished p s (reduceBy f p s us .node)
+  reduce-by : (f : ℕ) (s : Node) (us : List ℕ) → G s → pending p s < f → Finished p G s (reduceBy f p s us .node)
   unfolding reduceBy
   reduce-by zero s us g l = absurd (omega arith)
   reduce-by (suc f) s us g l =
       reduce-on s g (candidates p s) refl us (λ t vs. reduceBy f p t vs) (λ t vs h m. reduce-by f t vs h (omega arith))
 
-  pub reduce-done : (s : Node) → Good p s → Finished p s (reduce p s .node)
+  pub reduce-done : (s : Node) → G s → Finished p G s (reduce p s .node)
   unfolding reduce
   reduce-done s g = reduce-by (suc (p .rows)) s [] g (pending-fits p s)
 
@@ -195,7 +201,7 @@ module _ (p : Instance) (F : FitsNode p) where
   pub record Stepped (s t : Node) (us : List ℕ) (b : ℕ) : Type 0 where
     pub row-open : Open p s b
     pub above : 0 < leastOf p s b
-    pub good : Good p s → Good p t
+    pub good : G s → G t
     pub falls : pending p t < pending p s
     pub left : reduceFrom s us ≡ reduceFrom t (us ++ (b ∷ []))
 
@@ -224,17 +230,32 @@ module _ (p : Instance) (F : FitsNode p) where
           let vs : List ℕ = picked s i is e ∷ [] in
           omega (arith, q (next s i is e) (us ++ vs), length-append us vs, next-falls s i is e)
 
-  pub reduce-used : (s : Node) → length (reduce p s .used) ≤ p .rows
+  reduce-used : (s : Node) → length (reduce p s .used) ≤ p .rows
   unfolding reduce
   reduce-used s = omega (arith, used-by (suc (p .rows)) s [], pending-fits p s)
 
-  -- the public reducing call: every plan's price is the bound and its reduced costs, by the identity at the root reduced
+-- what does not depend on what lowering keeps: no more rows are used than there are, and with no candidate reducing leaves the node
+pub used-few : (p : Matrix) → FitsNode p → (s : Node) → length (reduce p s .used) ≤ p .rows
+used-few p F s = reduce-used p F (λ t. Unit {0}) (λ t i a g o j f fits. tt) s
+
+pub reduced-none : (p : Matrix) → FitsNode p → (s : Node) → candidates p s ≡ [] → reduce p s .node ≡ s
+unfolding reduce
+reduced-none p F s e = rw (reduce-none p F (λ t. Unit {0}) (λ t i a g o j f fits. tt) s [] e)
+
+pub fair-lowers : (p : Matrix) → FitsNode p → (top : ℕ) → Lowers p (Fair p top)
+fair-lowers p F top s i a g o j f fits = lower-fair p F s i a g j f fits
+
+-- the public reducing call: every plan's price is the bound and its reduced costs, by the identity at the root reduced
+module _ (p : Matrix) (F : FitsNode p) (cs : List ℕ) where
+  pub good-lowers : Lowers p (Good p cs)
+  good-lowers s i a g o j f fits = lower-good p F s i a g o j f fits
+
   pub reduce-identity : (X : ℕ → Bool) → IsPlan p X
-      → price p X ≡ reduce p (root p) .node .bound + total (width p) (λ k. on (X k) (costAt (reduce p (root p) .node) k))
+      → price p cs X ≡ reduce p (root p cs) .node .bound + total (width p) (λ k. on (X k) (costAt (reduce p (root p cs) .node) k))
   reduce-identity X h =
-      let t : Node = reduce p (root p) .node in
-      let r : Finished p (root p) t = reduce-done (root p) (root-good p F) in
-      let free : (k : ℕ) → k < width p → isFree t k ≡ true = λ k l. rw (r .same-column) (root-free p F k l) in
+      let t : Node = reduce p (root p cs) .node in
+      let r : Finished p (Good p cs) (root p cs) t = reduce-done p F (Good p cs) good-lowers (root p cs) (root-good p cs F) in
+      let free : (k : ℕ) → k < width p → isFree t k ≡ true = λ k l. rw (r .same-column) (root-free p F cs k l) in
       omega (
         arith,
         r .good .identity X (record { plan = h; agrees = λ k l f. absurd (true≢false (sym (free k l) ∙ f)) }),

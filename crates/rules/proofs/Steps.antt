@@ -9,7 +9,8 @@ use lib.Dec.{eqb}
 use borrow.Author.Tests.{eqb-true, eqb-false, eq-eqb, ne-eqb}
 use Rattle.node.specs.declared.Node.{Node}
 use Rattle.node.specs.Lists.{on}
-use Rattle.node.specs.Instance.{Instance, FitsNode, width, covers, meets}
+use Rattle.node.specs.Matrix.{Matrix, width, covers, meets}
+use Rattle.node.specs.Stored.{FitsNode}
 use Rattle.node.specs.Node.{mark, isFree, isTaken, isOpen, freeColumns, take, leave}
 use Rattle.rules.specs.Identity.{Completion}
 use Rattle.node.proofs.Members.{at-table}
@@ -18,12 +19,12 @@ use Rattle.rules.proofs.Plans.{Free, FreeIn, Sound, not-both, apart, cl
 use Rattle.rules.proofs.Decide.{Decided, stays, goes, joins, gained, redo, undo, decided-sound, still-free, decided-less}
 
 -- what becomes of a mark as column j is taken
-data At-take (p : Instance) (s : Node) (j b k : ℕ) : Type 0 where
+data At-take (p : Matrix) (s : Node) (j b k : ℕ) : Type 0 where
   itself : k ≡ j → mark (take p s j b) k ≡ 2 → At-take p s j b k
   drops : (k ≡ j → ⊥) → isFree s k ≡ true → meets p j k ≡ true → mark (take p s j b) k ≡ 0 → At-take p s j b k
   keeps : (k ≡ j → ⊥) → (isFree s k ≡ true → meets p j k ≡ false) → mark (take p s j b) k ≡ mark s k → At-take p s j b k
 
-at-take : (p : Instance) → FitsNode p → (s : Node) (j b k : ℕ) → k < width p → At-take p s j b k
+at-take : (p : Matrix) → FitsNode p → (s : Node) (j b k : ℕ) → k < width p → At-take p s j b k
 unfolding take
 at-take p F s j b k l =
     go (eqb k j) (isFree s k) (meets p j k) refl refl refl
@@ -36,7 +37,7 @@ at-take p F s j b k l =
     go false true false e f g h = keeps (eqb-false k j e) (λ q. g) h
     go false false c e f g h = keeps (eqb-false k j e) (λ q. absurd (true≢false (sym q ∙ f))) h
 
-open-take : (p : Instance) → FitsNode p → (s : Node) (j b i : ℕ) → i < p .rows
+open-take : (p : Matrix) → FitsNode p → (s : Node) (j b i : ℕ) → i < p .rows
     → isOpen (take p s j b) i ≡ (not (covers p i j) && isOpen s i)
 unfolding take
 open-take p F s j b i l =
@@ -47,7 +48,7 @@ open-take p F s j b i l =
     go false = refl
 
 -- a free column j, taken with the bound b
-module _ (p : Instance) (F : FitsNode p) (s : Node) (j : ℕ) (f : Free p s j) (b : ℕ) where
+module _ (p : Matrix) (F : FitsNode p) (s : Node) (j : ℕ) (f : Free p s j) (b : ℕ) where
   pub take-decides : (k : ℕ) → k < width p → Decided s (take p s j b) k
   take-decides k l = go (at-take p F s j b k l)
     where
@@ -105,7 +106,7 @@ module _ (p : Instance) (F : FitsNode p) (s : Node) (j : ℕ) (f : Free p s j) (
       (λ i k l h. take-open g i k l h (at-take p F s j b k (h .free .col)))
 
 -- a free column j, left
-module _ (p : Instance) (F : FitsNode p) (s : Node) (j : ℕ) (f : Free p s j) where
+module _ (p : Matrix) (F : FitsNode p) (s : Node) (j : ℕ) (f : Free p s j) where
   leave-at : (k : ℕ) → k < width p → mark (leave s j) k ≡ cond (eqb k j) 0 (mark s k)
   unfolding leave
   leave-at k l = at-table 256 (λ k. cond (eqb k j) 0 (mark s k)) k (omega (arith, F .wide))

@@ -2,47 +2,67 @@
 -- one of its free columns, and is the price of a completion that has none. So the sum search meets demand 3.
 use mathlib.Core.Path.{_≡_, refl, sym, _∙_}
 use mathlib.Core.Bool.{Bool, true, false, _&&_}
+use mathlib.Core.List.{List}
 use Prim.Native.Nat.{ℕ}
 use native.Mathlib.Omega.{arith}
 use Rattle.node.specs.declared.Node.{Node}
 use Rattle.node.specs.Lists.{on}
-use Rattle.node.specs.Instance.{Instance, FitsNode, width, price, IsPlan}
-use Rattle.node.specs.Node.{isFree, costAt}
+use Rattle.node.specs.Matrix.{Matrix, width, IsPlan, price}
+use Rattle.node.specs.Node.{isFree, costAt, root, take, leave}
+use Rattle.node.specs.Stored.{matrixIn, Kept, FitsNode}
 use Rattle.rules.specs.Reduce.{reduce}
-use Rattle.rules.specs.Tree.{joined, sum, answer}
+use Rattle.rules.specs.Tree.{joined, sum, live, answer}
 use Rattle.rules.specs.Demand.{Demand3}
 use Rattle.rules.proofs.Sums.{total-one, total-zero}
-use Rattle.rules.proofs.Plans.{root-comp}
-use Rattle.rules.proofs.Variants.{Lowered, Laws, plain-forces}
+use Rattle.rules.proofs.Plans.{Free, Sound, root-comp}
+use Rattle.rules.proofs.Variants.{Stepping, Laws, plain-forces}
 use Rattle.rules.proofs.Demand.{demand-3}
-use Rattle.rules.proofs.Costs.{Good, root-good, take-good, leave-good}
-use Rattle.rules.proofs.Reducing.{Finished, least-free, reduce-done}
+use Rattle.rules.proofs.Costs.{Good, Workable, root-good, take-good, leave-good, take-fair, leave-fair, lower-fair}
+use Rattle.rules.proofs.Reducing.{Lowers, Finished, least-free, reduce-done, good-lowers}
 
 none-at : (f x : Bool) (v : ℕ) → (f ≡ true → x ≡ false) → on (f && x) v ≡ 0
 none-at true x v h = rw (h refl)
 none-at false x v h = refl
 
-module _ (p : Instance) (F : FitsNode p) where
-  sum-lowered : (s : Node) → Good p s → Lowered p (sum p) (Good p) s (reduce p s .node)
-  sum-lowered s g =
-      let t : Node = reduce p s .node in
-      let r : Finished p s t = reduce-done p F s g in
-      record {
-        good = r .good;
-        same-column = r .same-column;
-        same-row = r .same-row;
-        zero = λ i o l. let k = least-free p t i l in (k .0, k .1, sym (k .2) ∙ r .done i o);
-      }
+module _ (p : Matrix) (F : FitsNode p) where
+  -- the steps keep what taking, leaving and lowering keep
+  sum-steps : (G : Node → Type 0) → ((s : Node) → G s → Sound p s)
+      → ((s : Node) (j : ℕ) → Free p s j → G s → G (take p s j (joined s j)))
+      → ((s : Node) (j : ℕ) → Free p s j → G s → G (leave s j)) → Lowers p G → Stepping p (sum p) (IsPlan p) G
+  sum-steps G sound taking leaving lowers = record {
+    sound = sound;
+    forcing = plain-forces p F joined G sound taking;
+    taking = taking;
+    leaving = leaving;
+    reducing = λ s g.
+        let t : Node = reduce p s .node in
+        let r : Finished p G s t = reduce-done p F G lowers s g in
+        record {
+          good = r .good;
+          same-column = r .same-column;
+          same-row = r .same-row;
+          zero = λ i o l. let k = least-free p t i l in (k .0, k .1, sym (k .2) ∙ r .done i o);
+        };
+  }
 
-  pub sum-laws : Laws p (sum p) (IsPlan p) (price p) (Good p)
+-- what the code's steps ask is kept by the steps
+pub workable-steps : (l : List ℕ) → Kept l → Stepping (matrixIn l) (sum (matrixIn l)) (IsPlan (matrixIn l)) (Workable l)
+workable-steps l k =
+    let p : Matrix = matrixIn l in
+    let F : FitsNode p = k .small .fits in
+    sum-steps p F (Workable l) (λ s w. w .fair .sound)
+    (λ s j f w. record { kept = k; fair = take-fair p F s j f (w .fair) })
+    (λ s j f w. record { kept = k; fair = leave-fair p F s j f (w .fair) })
+    (λ s i a w o j f fits. record { kept = k; fair = lower-fair p F s i a (w .fair) j f fits })
+
+module _ (p : Matrix) (F : FitsNode p) (cs : List ℕ) where
+  sum-laws : Laws p (sum p) (live (root p cs)) (IsPlan p) (price p cs) (Good p cs)
   sum-laws = record {
-    start-good = root-good p F;
-    start-comp = root-comp p F;
-    sound = λ s g. g .sound;
-    forcing = plain-forces p F joined (Good p) (λ s g. g .sound) (take-good p F);
-    taking = take-good p F;
-    leaving = leave-good p F;
-    reducing = sum-lowered;
+    steps =
+        sum-steps p F (Good p cs) (λ s g. g .sound) (λ s j f g. take-good p F s j f g) (λ s j f g. leave-good p F s j f g)
+        (good-lowers p F cs);
+    start-good = λ e. root-good p cs F;
+    start-comp = λ X h. (refl, root-comp p F cs X h);
     low = λ s g X c. omega (arith, g .identity X c);
     above = λ s g X c k f x. omega (
       arith,
@@ -57,5 +77,5 @@ module _ (p : Instance) (F : FitsNode p) where
     );
   }
 
-  pub sum-demand-3 : (limit : ℕ) → Demand3 p (sum p) (IsPlan p) (price p) limit (answer (sum p) p limit)
-  sum-demand-3 = demand-3 p F (sum p) (IsPlan p) (price p) (Good p) sum-laws
+  pub sum-demand-3 : (limit : ℕ) → Demand3 p (sum p) (live (root p cs)) (IsPlan p) (price p cs) limit (answer (sum p) p (live (root p cs)) limit)
+  sum-demand-3 = demand-3 p F (sum p) (IsPlan p) (price p cs) (Good p cs) (live (root p cs)) sum-laws

@@ -1,7 +1,7 @@
 -- Each visit of the tree is lawful, for any variant that keeps its laws: forcing and reducing lose no completion, a completion has the
 -- chosen column or not, and one without it has another free column of the row, which costs the penalty at least.
 use mathlib.Core.Path.{_≡_, refl, sym, ap, _∙_}
-use mathlib.Core.Bool.{Bool, true, false, cond, false≢true, true≢false, and-true}
+use mathlib.Core.Bool.{Bool, true, false, cond, false≢true, true≢false}
 use mathlib.Core.List.{List, [], _∷_}
 use mathlib.Core.Logic.{_⊎_, inl, inr, ⊎-elim}
 use Prim.Native.Nat.{ℕ, _+_, _≤_, _<_}
@@ -10,19 +10,22 @@ use lib.Dec.{eqb, ltb, leb}
 use borrow.Author.Tests.{eq-eqb, lt-ltb, leb-true, leb-false}
 use Rattle.node.specs.declared.Node.{Node}
 use Rattle.node.specs.Lists.{on, keep, upto, member, least, pick}
-use Rattle.node.specs.Instance.{Instance, FitsNode, width, covers, count, IsPlan, chosen, Shows}
+use Rattle.node.specs.Matrix.{Matrix, width, covers, count, IsPlan, chosen, Shows}
+use Rattle.node.specs.Stored.{FitsNode}
 use Rattle.node.specs.Node.{isTaken, isOpen, freeColumns, freeOf, openRows, taken, take, leave}
+use Rattle.rules.specs.declared.Forced.{Forced}
 use Rattle.rules.specs.Search.{Incumbent, reaches, Visit, ended, full}
 use Rattle.rules.specs.Tree.{Variant, Penalty, just, most, penaltyOf, plus, withoutBound, zeros, dearer, penalty, rowBefore}
 use Rattle.rules.specs.Tree.{columnBefore, branchOn, reduced, living, visitBy, visit}
 use Rattle.rules.specs.Identity.{Completion}
 use Rattle.rules.proofs.Walks.{Lawful, reaches-true, at-most-le}
-use Rattle.node.proofs.Members.{not-so, member-cases, kept, member-keep, member-upto, upto-lt, keep-cong, pick-member}
+use Rattle.node.proofs.Members.{not-so, member-cases, kept, member-keep, upto-lt, keep-cong, pick-member}
 use Rattle.node.proofs.Members.{least-le, keep-short}
 use Rattle.rules.proofs.Sums.{total-cong}
 use Rattle.rules.proofs.Plans.{Open, FreeIn, not-taken}
+use Rattle.rules.proofs.Decide.{decided-le}
 use Rattle.rules.proofs.Steps.{take-comp, take-less, leave-comp, leave-out, unleave, leave-less}
-use Rattle.rules.proofs.Rows.{size, open-in, in-open, free-in, in-free, some-free}
+use Rattle.rules.proofs.Rows.{size, open-in, in-open, free-in, in-free, some-free, taken-is}
 use Rattle.rules.proofs.Forcing.{TwoFree}
 use Rattle.rules.proofs.Variants.{ZeroIn, Lowered, TakenOk, Forces, Laws, Follows, lowered-open, lowered-two}
 use Rattle.rules.proofs.Variants.{lowered-follows}
@@ -33,29 +36,29 @@ penalty-is c [] d e = cc
 penalty-is c (j ∷ js) d e = cc
 
 -- an allowed completion
-abbrev pub Completes : Instance → ((ℕ → Bool) → Type 0) → Node → (ℕ → Bool) → Type 0
+abbrev pub Completes : Matrix → ((ℕ → Bool) → Type 0) → Node → (ℕ → Bool) → Type 0
 Completes p Ok s X = Ok X × Completion p s X
 
-module _ (p : Instance) (F : FitsNode p) (o : Variant) (Ok : (ℕ → Bool) → Type 0) (value : (ℕ → Bool) → ℕ) (Good : Node → Type 0)
-    (L : Laws p o Ok value Good) where
+-- A row's columns at cost 0, and those above.
+module _ (o : Variant) (p : Matrix) (t : Node) (i k : ℕ) where
+  pub zero-in : member k (zeros o p t i) ≡ true → FreeIn p t i k
+  unfolding zeros
+  zero-in h = free-in p t i k (kept (λ j. eqb (o .present t j) 0) k (freeOf p t i) h .1)
+
+  pub in-zero : FreeIn p t i k → o .present t k ≡ 0 → member k (zeros o p t i) ≡ true
+  unfolding zeros
+  in-zero f e =
+      member-keep (λ j. eqb (o .present t j) 0) k (freeOf p t i) ∙ rw (eq-eqb (o .present t k) 0 e) (in-free p t i k f)
+
+  in-dearer : FreeIn p t i k → 0 < o .present t k → member k (dearer o p t i) ≡ true
+  unfolding dearer
+  in-dearer f e =
+      member-keep (λ j. ltb 0 (o .present t j)) k (freeOf p t i) ∙ rw (lt-ltb 0 (o .present t k) e) (in-free p t i k f)
+
+module _ (p : Matrix) (F : FitsNode p) (o : Variant) (Ok : (ℕ → Bool) → Type 0) (value : (ℕ → Bool) → ℕ) (Good : Node → Type 0)
+    (start : Forced) (L : Laws p o start Ok value Good) where
   abbrev pub Law : Node → Incumbent → Visit Node → Type 0
   Law = Lawful Ok value (Shows p Ok value) Good (size p) (Completes p Ok)
-
-  -- A row's columns at cost 0, and those above.
-  module _ (t : Node) (i k : ℕ) where
-    pub zero-in : member k (zeros o p t i) ≡ true → FreeIn p t i k
-    unfolding zeros
-    zero-in h = free-in p t i k (kept (λ j. eqb (o .present t j) 0) k (freeOf p t i) h .1)
-
-    pub in-zero : FreeIn p t i k → o .present t k ≡ 0 → member k (zeros o p t i) ≡ true
-    unfolding zeros
-    in-zero f e =
-        member-keep (λ j. eqb (o .present t j) 0) k (freeOf p t i) ∙ rw (eq-eqb (o .present t k) 0 e) (in-free p t i k f)
-
-    in-dearer : FreeIn p t i k → 0 < o .present t k → member k (dearer o p t i) ≡ true
-    unfolding dearer
-    in-dearer f e =
-        member-keep (λ j. ltb 0 (o .present t j)) k (freeOf p t i) ∙ rw (lt-ltb 0 (o .present t k) e) (in-free p t i k f)
 
   -- without the only column j at cost 0, a row costs the penalty at least
   pays : (t : Node) (i j d : ℕ) → zeros o p t i ≡ j ∷ [] → penalty o p t i ≡ just d → (X : ℕ → Bool) → X j ≡ false
@@ -63,12 +66,12 @@ module _ (p : Instance) (F : FitsNode p) (o : Variant) (Ok : (ℕ → Bool) → 
   unfolding penalty member
   pays t i j d z e X out k f x =
       let only : o .present t k ≡ 0 → k ≡ j = λ y. ⊎-elim (λ q. q) (λ q. absurd (false≢true q))
-      (member-cases k j [] (rw z at (in-zero t i k f y))) in
+      (member-cases k j [] (rw z at (in-zero o p t i k f y))) in
       let n : o .present t k ≡ 0 → ⊥ = λ y. true≢false (sym x ∙ ap X (only y) ∙ out) in
       omega (
         arith,
         penalty-is (o .present t) (dearer o p t i) d e,
-        least-le (o .present t) (dearer o p t i) k (in-dearer t i k f (omega arith)),
+        least-le (o .present t) (dearer o p t i) k (in-dearer o p t i k f (omega arith)),
       )
 
   -- A node t that stands for s, forced and, below, reduced.
@@ -90,7 +93,7 @@ module _ (p : Instance) (F : FitsNode p) (o : Variant) (Ok : (ℕ → Bool) → 
 
           go : (y : Bool) → leb (t .bound + d) (value X) ≡ y → t .bound + d ≤ value X
           go true r = leb-true (t .bound + d) (value X) r
-          go false r = absurd (some-free p t (L .sound t (w .good)) i h X stays (λ k u x. omega (
+          go false r = absurd (some-free p t (L .steps .sound t (w .good)) i h X stays (λ k u x. omega (
             arith,
             leb-false (t .bound + d) (value X) r,
             L .above t (w .good) X stays k (u .free) x,
@@ -104,10 +107,10 @@ module _ (p : Instance) (F : FitsNode p) (o : Variant) (Ok : (ℕ → Bool) → 
       unfolding branchOn freeOf member
       branch-law i h k [] z =
           let r = zero i h (omega (arith, two i h)) in
-          absurd (false≢true (rw z at (in-zero t i (r .0) (r .1) (r .2))))
+          absurd (false≢true (rw z at (in-zero o p t i (r .0) (r .1) (r .2))))
       branch-law i h k (j ∷ js) z = record {
-        good-a = L .taking t b (f .free) (w .good);
-        good-z = L .leaving t b (f .free) (w .good);
+        good-a = L .steps .taking t b (f .free) (w .good);
+        good-z = L .steps .leaving t b (f .free) (w .good);
         less-a = omega (arith, w .less, take-less p F t b (f .free) (o .join t b));
         less-z = omega (arith, w .less, leave-less p F t b (f .free));
         two = omega (arith, w .less, two i h, keep-short (covers p i) (freeColumns p t));
@@ -122,7 +125,7 @@ module _ (p : Instance) (F : FitsNode p) (o : Variant) (Ok : (ℕ → Bool) → 
           m = pick-member (columnBefore o p t) j js
 
           f : FreeIn p t i b
-          f = zero-in t i b (rw z m)
+          f = zero-in o p t i b (rw z m)
 
           branches : (X : ℕ → Bool) → Ok X → Completion p t X → (x : Bool) → X b ≡ x
               → Completes p Ok (take p t b (o .join t b)) X ⊎ Completes p Ok (leave t b) X
@@ -142,14 +145,10 @@ module _ (p : Instance) (F : FitsNode p) (o : Variant) (Ok : (ℕ → Bool) → 
           go false e = branch-law r (h r (pick-member (rowBefore o p t) i is)) k (zeros o p t r) refl
 
     -- with no open row the taken columns are a plan, whose value is the bound
-    taken-is : (k : ℕ) → k < width p → chosen (taken p t) k ≡ isTaken t k
-    unfolding taken
-    taken-is k l = member-keep (isTaken t) k (upto (width p)) ∙ rw (member-upto (width p) k l) (and-true (isTaken t k))
-
     taken-listed : keep (chosen (taken p t)) (upto (width p)) ≡ taken p t
     unfolding taken
     taken-listed =
-        keep-cong (chosen (taken p t)) (isTaken t) (upto (width p)) (λ k m. taken-is k (upto-lt (width p) k m))
+        keep-cong (chosen (taken p t)) (isTaken t) (upto (width p)) (λ k m. taken-is p t k (upto-lt (width p) k m))
 
     full-plan : openRows p t ≡ [] → IsPlan p (chosen (taken p t))
     unfolding count member
@@ -158,16 +157,16 @@ module _ (p : Instance) (F : FitsNode p) (o : Variant) (Ok : (ℕ → Bool) → 
         let v : ℕ → ℕ = λ k. on (covers p i k) 1 in
         omega (
           arith,
-          rw closed at (L .sound t (w .good) .once i l),
-          total-cong (width p) (λ k. on (chosen (taken p t) k) (v k)) (λ k. on (isTaken t k) (v k)) (λ k m. rw (taken-is k m)),
+          rw closed at (L .steps .sound t (w .good) .once i l),
+          total-cong (width p) (λ k. on (chosen (taken p t) k) (v k)) (λ k. on (isTaken t k) (v k)) (λ k m. rw (taken-is p t k m)),
         )
 
     full-law : TakenOk p Ok t → openRows p t ≡ [] → (k : Incumbent) → Law s k (full (t .bound) (taken p t))
     full-law a e k =
         let X : ℕ → Bool = chosen (taken p t) in
         let h : IsPlan p X = full-plan e in
-        let c : Completion p t X = record { plan = h; agrees = λ k l f. taken-is k l } in
-        let v : value X ≡ t .bound = L .exact t (w .good) X c (λ k f. taken-is k (f .col) ∙ not-taken t k (f .is-free)) in
+        let c : Completion p t X = record { plan = h; agrees = λ k l f. taken-is p t k l } in
+        let v : value X ≡ t .bound = L .exact t (w .good) X c (λ k f. taken-is p t k (f .col) ∙ not-taken t k (f .is-free)) in
         (record { listed = taken-listed; ok = a h; priced = v }, λ Y d. L .low t (w .good) Y (w .comp Y (d .0) (d .1)))
 
   living-law : (s t : Node) → Follows p Ok Good s t → TwoFree p t → TakenOk p Ok t
@@ -176,7 +175,7 @@ module _ (p : Instance) (F : FitsNode p) (o : Variant) (Ok : (ℕ → Bool) → 
   living-law s t w two a k [] e = full-law s t w a e k
   living-law s t w two a k (i ∷ is) e =
       let u : Node = o .lowered t in
-      let r : Lowered p o Good t u = L .reducing t (w .good) in
+      let r : Lowered p o Good t u = L .steps .reducing t (w .good) in
       reduced-law s u (lowered-follows p o Good t u r Ok s w) (lowered-two p o Good t u r two) (r .zero) k i is
       (λ j h. lowered-open p o Good t u r j (open-in p t j (rw e h)))
 
@@ -188,10 +187,10 @@ module _ (p : Instance) (F : FitsNode p) (o : Variant) (Ok : (ℕ → Bool) → 
       t = o .settle s .node
 
       f : Forces p Ok Good s (o .settle s)
-      f = L .forcing s g
+      f = L .steps .forcing s g
 
       follows : Follows p Ok Good s t
-      follows = record { good = f .good; less = f .less; comp = λ X a c. f .comp X a c .1 }
+      follows = record { good = f .good; less = decided-le p s t (f .decides); comp = λ X a c. f .comp X a c .1 }
 
       go : (x : Bool) → o .settle s .alive ≡ x → Law s k (cond x (living o p t k (openRows p t)) ended)
       go true e = living-law s t follows (f .two e) (f .full e) k (openRows p t) refl

@@ -3,7 +3,7 @@ use mathlib.Core.Path.{_≡_, refl}
 use mathlib.Core.List.{List, [], _∷_, map}
 use Prim.Native.Nat.{ℕ, suc}
 use Rattle.node.specs.Lists.{keep, from, member, leastFrom, least, pick, isEmpty, first}
-use Rattle.node.specs.Instance.{Instance, covers, meets}
+use Rattle.node.specs.Matrix.{Matrix, covers, meets, Instance}
 use Rattle.node.specs.Node.{freeColumns, freeOf, openRows, taken, root, take, leave}
 use Rattle.rules.specs.Force.{rowsWith, askedBy, asked, forceOn, forceBy, force}
 use Rattle.rules.specs.Reduce.{leastOf, candidates, candidate, byOrder, precedes, rowFirst, lower, reduceOn, reduceBy, reduce}
@@ -11,35 +11,35 @@ use Rattle.rules.specs.Search.{reaches, improve, second, enter, walk, af
 use Rattle.rules.specs.Search.{answerOf}
 use Rattle.rules.specs.Tree.{penaltyOf, plus, aboveP, sameP, withoutBound, zeros, dearer, penalty, rowBefore, sharing}
 use Rattle.rules.specs.Tree.{columnBefore, branchOn, reduced, living, visitBy, visit, fullTree, boundOf, rootBound, answer}
-use Rattle.rules.specs.Files.{numbered, solved, usual}
+use Rattle.rules.specs.Files.{file, numbered, solved, usual}
 
 -- The five criteria, by the rows in the sequence that reducing uses them, numbered from 1.
 abbrev order : Instance → List ℕ
-order p = map suc (reduce p (root p) .used)
+order p = let m : Matrix = p .matrix in map suc (reduce m (root m (p .costs)) .used)
 
 -- 1: row 2 has one free column, row 1 two
 abbrev fewFree : Instance
-fewFree = record { rows = 2; costs = 1 ∷ 1 ∷ 2 ∷ []; bodies = (1 ∷ []) ∷ (2 ∷ []) ∷ (1 ∷ []) ∷ [] }
+fewFree = file 2 (1 ∷ 1 ∷ 2 ∷ []) ((1 ∷ []) ∷ (2 ∷ []) ∷ (1 ∷ []) ∷ [])
 
 -- 2: row 2 has one column at its least cost, row 1 two
 abbrev fewLeast : Instance
-fewLeast = record { rows = 2; costs = 1 ∷ 2 ∷ 1 ∷ []; bodies = (1 ∷ []) ∷ (2 ∷ []) ∷ (1 ∷ 2 ∷ []) ∷ [] }
+fewLeast = file 2 (1 ∷ 2 ∷ 1 ∷ []) ((1 ∷ []) ∷ (2 ∷ []) ∷ (1 ∷ 2 ∷ []) ∷ [])
 
 -- 3: row 2 has the larger least cost
 abbrev dearLeast : Instance
-dearLeast = record { rows = 2; costs = 1 ∷ 2 ∷ []; bodies = (1 ∷ []) ∷ (2 ∷ []) ∷ [] }
+dearLeast = file 2 (1 ∷ 2 ∷ []) ((1 ∷ []) ∷ (2 ∷ []) ∷ [])
 
 -- 4: the column of row 3 covers one row, that of row 1 two
 abbrev shortLeast : Instance
-shortLeast = record { rows = 3; costs = 1 ∷ 1 ∷ []; bodies = (1 ∷ 2 ∷ []) ∷ (3 ∷ []) ∷ [] }
+shortLeast = file 3 (1 ∷ 1 ∷ []) ((1 ∷ 2 ∷ []) ∷ (3 ∷ []) ∷ [])
 
 -- 4: of the columns at the least cost any counts, and not only the first; so rows 1 and 2 are equal in it
 abbrev anyShort : Instance
-anyShort = record { rows = 2; costs = 2 ∷ 2 ∷ 2 ∷ []; bodies = (2 ∷ []) ∷ (1 ∷ 2 ∷ []) ∷ (1 ∷ []) ∷ [] }
+anyShort = file 2 (2 ∷ 2 ∷ 2 ∷ []) ((2 ∷ []) ∷ (1 ∷ 2 ∷ []) ∷ (1 ∷ []) ∷ [])
 
 -- 5: the rows differ in nothing but their number
 abbrev lowRow : Instance
-lowRow = record { rows = 2; costs = 1 ∷ 1 ∷ []; bodies = (1 ∷ []) ∷ (2 ∷ []) ∷ [] }
+lowRow = file 2 (1 ∷ 1 ∷ []) ((1 ∷ []) ∷ (2 ∷ []) ∷ [])
 
 orders :
     (order fewFree ∷ order fewLeast ∷ order dearLeast ∷ order shortLeast ∷ order anyShort ∷ order lowRow ∷ [])
@@ -50,51 +50,39 @@ orders = refl
 
 -- The choice of the row: of two rows with as many columns at cost 0 and the same penalty, row 2 has fewer free columns
 abbrev fewFreeRow : Instance
-fewFreeRow = record { rows = 2; costs = 1 ∷ 1 ∷ 3 ∷ 2 ∷ []; bodies = (1 ∷ []) ∷ (2 ∷ []) ∷ (1 ∷ 2 ∷ []) ∷ (1 ∷ []) ∷ [] }
+fewFreeRow = file 2 (1 ∷ 1 ∷ 3 ∷ 2 ∷ []) ((1 ∷ []) ∷ (2 ∷ []) ∷ (1 ∷ 2 ∷ []) ∷ (1 ∷ []) ∷ [])
 
 -- the rows differ in nothing but their number
 abbrev lowestRow : Instance
-lowestRow = record { rows = 3; costs = 1 ∷ 1 ∷ 2 ∷ []; bodies = (1 ∷ []) ∷ (2 ∷ 3 ∷ []) ∷ (1 ∷ 2 ∷ 3 ∷ []) ∷ [] }
+lowestRow = file 3 (1 ∷ 1 ∷ 2 ∷ []) ((1 ∷ []) ∷ (2 ∷ 3 ∷ []) ∷ (1 ∷ 2 ∷ 3 ∷ []) ∷ [])
 
 -- a row whose columns all stand at 0 has a penalty above any number
 abbrev allZero : Instance
-allZero = record { rows = 3; costs = 1 ∷ 1 ∷ 1 ∷ 2 ∷ []; bodies = (1 ∷ 3 ∷ []) ∷ (2 ∷ []) ∷ (1 ∷ []) ∷ (1 ∷ 2 ∷ 3 ∷ []) ∷ [] }
+allZero = file 3 (1 ∷ 1 ∷ 1 ∷ 2 ∷ []) ((1 ∷ 3 ∷ []) ∷ (2 ∷ []) ∷ (1 ∷ []) ∷ (1 ∷ 2 ∷ 3 ∷ []) ∷ [])
 
 -- The choice of the column: the least C / s, and not s / C
 abbrev leastRatio : Instance
-leastRatio = record { rows = 2; costs = 1 ∷ 2 ∷ 1 ∷ []; bodies = (1 ∷ []) ∷ (1 ∷ 2 ∷ []) ∷ (2 ∷ []) ∷ [] }
+leastRatio = file 2 (1 ∷ 2 ∷ 1 ∷ []) ((1 ∷ []) ∷ (1 ∷ 2 ∷ []) ∷ (2 ∷ []) ∷ [])
 
 -- C counts columns at cost 0 only
 abbrev zeroOnly : Instance
-zeroOnly = record { rows = 2; costs = 1 ∷ 2 ∷ 1 ∷ 2 ∷ []; bodies = (1 ∷ []) ∷ (1 ∷ 2 ∷ []) ∷ (2 ∷ []) ∷ (2 ∷ []) ∷ [] }
+zeroOnly = file 2 (1 ∷ 2 ∷ 1 ∷ 2 ∷ []) ((1 ∷ []) ∷ (1 ∷ 2 ∷ []) ∷ (2 ∷ []) ∷ (2 ∷ []) ∷ [])
 
 -- The branches: a penalty where two columns stand at 0 would lose the plan at 6
 abbrev twoZeros : Instance
-twoZeros = record {
-  rows = 3;
-  costs = 1 ∷ 2 ∷ 1 ∷ 6 ∷ 6 ∷ 5 ∷ [];
-  bodies = (1 ∷ 3 ∷ []) ∷ (2 ∷ 3 ∷ []) ∷ (1 ∷ 2 ∷ []) ∷ (2 ∷ []) ∷ (1 ∷ 2 ∷ []) ∷ (3 ∷ []) ∷ [];
-}
+twoZeros = file 3 (1 ∷ 2 ∷ 1 ∷ 6 ∷ 6 ∷ 5 ∷ []) ((1 ∷ 3 ∷ []) ∷ (2 ∷ 3 ∷ []) ∷ (1 ∷ 2 ∷ []) ∷ (2 ∷ []) ∷ (1 ∷ 2 ∷ []) ∷ (3 ∷ []) ∷ [])
 
 -- costs reduced in the first branch and kept in the second would claim 5 for the plan
 abbrev stepBack : Instance
-stepBack = record { rows = 4; costs = 1 ∷ 3 ∷ 2 ∷ 3 ∷ []; bodies = (1 ∷ 4 ∷ []) ∷ (1 ∷ 3 ∷ 4 ∷ []) ∷ (2 ∷ 3 ∷ 4 ∷ []) ∷ (2 ∷ []) ∷ [] }
+stepBack = file 4 (1 ∷ 3 ∷ 2 ∷ 3 ∷ []) ((1 ∷ 4 ∷ []) ∷ (1 ∷ 3 ∷ 4 ∷ []) ∷ (2 ∷ 3 ∷ 4 ∷ []) ∷ (2 ∷ []) ∷ [])
 
 -- The incumbent: the third node is another plan at 4, which does not replace it
 abbrev equalPlans : Instance
-equalPlans = record {
-  rows = 3;
-  costs = 3 ∷ 2 ∷ 1 ∷ 1 ∷ 2 ∷ [];
-  bodies = (2 ∷ []) ∷ (1 ∷ 2 ∷ []) ∷ (2 ∷ 3 ∷ []) ∷ (1 ∷ 3 ∷ []) ∷ (3 ∷ []) ∷ [];
-}
+equalPlans = file 3 (3 ∷ 2 ∷ 1 ∷ 1 ∷ 2 ∷ []) ((2 ∷ []) ∷ (1 ∷ 2 ∷ []) ∷ (2 ∷ 3 ∷ []) ∷ (1 ∷ 3 ∷ []) ∷ (3 ∷ []) ∷ [])
 
 -- the third node's bound equals the incumbent's cost, so it ends
 abbrev equalBound : Instance
-equalBound = record {
-  rows = 3;
-  costs = 5 ∷ 6 ∷ 2 ∷ 3 ∷ 9 ∷ 2 ∷ [];
-  bodies = (3 ∷ []) ∷ (1 ∷ 2 ∷ []) ∷ (1 ∷ []) ∷ (1 ∷ 3 ∷ []) ∷ (2 ∷ 3 ∷ []) ∷ (1 ∷ []) ∷ [];
-}
+equalBound = file 3 (5 ∷ 6 ∷ 2 ∷ 3 ∷ 9 ∷ 2 ∷ []) ((3 ∷ []) ∷ (1 ∷ 2 ∷ []) ∷ (1 ∷ []) ∷ (1 ∷ 3 ∷ []) ∷ (2 ∷ 3 ∷ []) ∷ (1 ∷ []) ∷ [])
 
 cases :
     (solved fewFreeRow usual

@@ -1,53 +1,49 @@
 -- The (M) files of 01 (Files to try), as one table: each file with its node limit, and the answer.
 use mathlib.Core.Path.{_≡_, refl}
-use mathlib.Core.List.{[], _∷_, map}
+use mathlib.Core.List.{List, [], _∷_, map}
 use Prim.Native.Nat.{ℕ, suc}
 use Rattle.node.specs.Lists.{keep, from, member, leastFrom, least, pick, isEmpty, first}
-use Rattle.node.specs.Instance.{Instance, covers, meets}
+use Rattle.node.specs.Matrix.{Matrix, Instance, covers, meets}
 use Rattle.node.specs.Node.{freeColumns, freeOf, openRows, taken, root, take, leave}
 use Rattle.rules.specs.Force.{rowsWith, askedBy, asked, forceOn, forceBy, force}
 use Rattle.rules.specs.Reduce.{leastOf, candidates, candidate, byOrder, precedes, rowFirst, lower, reduceOn, reduceBy, reduce}
 use Rattle.rules.specs.Search.{nothing, plan, reaches, improve, second, enter, walk, after, Answer, best, none, stopped}
 use Rattle.rules.specs.Search.{finished, answerBy, answerOf}
-use Rattle.rules.specs.Tree.{sum, penaltyOf, plus, aboveP, sameP, withoutBound, zeros, dearer, penalty, rowBefore, sharing}
+use Rattle.rules.specs.Tree.{sum, live, penaltyOf, plus, aboveP, sameP, withoutBound, zeros, dearer, penalty, rowBefore, sharing}
 use Rattle.rules.specs.Tree.{columnBefore, branchOn, reduced, living, visitBy, visit, fullTree, boundOf, rootBound, answer}
+
+-- m rows, and the cost and the body of each column
+abbrev pub file : ℕ → List ℕ → List (List ℕ) → Instance
+file m costs bodies = record { matrix = record { rows = m; bodies = bodies }; costs = costs }
 
 -- m 1, duty {1} at 5
 abbrev once : Instance
-once = record { rows = 1; costs = 5 ∷ []; bodies = (1 ∷ []) ∷ [] }
+once = file 1 (5 ∷ []) ((1 ∷ []) ∷ [])
 
 -- the same duty twice
 abbrev twice : Instance
-twice = record { rows = 1; costs = 5 ∷ 5 ∷ []; bodies = (1 ∷ []) ∷ (1 ∷ []) ∷ [] }
+twice = file 1 (5 ∷ 5 ∷ []) ((1 ∷ []) ∷ (1 ∷ []) ∷ [])
 
 -- m 2, duty {1} at 3
 abbrev bare : Instance
-bare = record { rows = 2; costs = 3 ∷ []; bodies = (1 ∷ []) ∷ [] }
+bare = file 2 (3 ∷ []) ((1 ∷ []) ∷ [])
 
 -- m 2, {1,2} at 9, {1} at 4, {2} at 4
 abbrev parts : Instance
-parts = record { rows = 2; costs = 9 ∷ 4 ∷ 4 ∷ []; bodies = (1 ∷ 2 ∷ []) ∷ (1 ∷ []) ∷ (2 ∷ []) ∷ [] }
+parts = file 2 (9 ∷ 4 ∷ 4 ∷ []) ((1 ∷ 2 ∷ []) ∷ (1 ∷ []) ∷ (2 ∷ []) ∷ [])
 
 -- m 3, {1,2}, {2,3}, {1,3} at 1
 abbrev pairs : Instance
-pairs = record { rows = 3; costs = 1 ∷ 1 ∷ 1 ∷ []; bodies = (1 ∷ 2 ∷ []) ∷ (2 ∷ 3 ∷ []) ∷ (1 ∷ 3 ∷ []) ∷ [] }
+pairs = file 3 (1 ∷ 1 ∷ 1 ∷ []) ((1 ∷ 2 ∷ []) ∷ (2 ∷ 3 ∷ []) ∷ (1 ∷ 3 ∷ []) ∷ [])
 
 abbrev example1 : Instance
-example1 = record {
-  rows = 5;
-  costs = 3 ∷ 7 ∷ 5 ∷ 8 ∷ 10 ∷ 4 ∷ 6 ∷ 9 ∷ [];
-  bodies =
-      (1 ∷ []) ∷ (1 ∷ 5 ∷ []) ∷ (2 ∷ []) ∷ (2 ∷ 5 ∷ []) ∷ (2 ∷ 3 ∷ []) ∷ (3 ∷ 5 ∷ []) ∷ (3 ∷ 4 ∷ []) ∷ (4 ∷ []) ∷ [];
-}
+example1 = file 5 (3 ∷ 7 ∷ 5 ∷ 8 ∷ 10 ∷ 4 ∷ 6 ∷ 9 ∷ [])
+    ((1 ∷ []) ∷ (1 ∷ 5 ∷ []) ∷ (2 ∷ []) ∷ (2 ∷ 5 ∷ []) ∷ (2 ∷ 3 ∷ []) ∷ (3 ∷ 5 ∷ []) ∷ (3 ∷ 4 ∷ []) ∷ (4 ∷ []) ∷ [])
 
 abbrev example4 : Instance
-example4 = record {
-  rows = 6;
-  costs = 18 ∷ 22 ∷ 14 ∷ 36 ∷ 17 ∷ 14 ∷ 8 ∷ 24 ∷ 14 ∷ 7 ∷ [];
-  bodies =
-      (5 ∷ 6 ∷ []) ∷ (3 ∷ 5 ∷ 6 ∷ []) ∷ (1 ∷ 4 ∷ []) ∷ (2 ∷ 3 ∷ 4 ∷ 6 ∷ []) ∷ (1 ∷ 2 ∷ []) ∷ (2 ∷ 6 ∷ []) ∷ (5 ∷ [])
-      ∷ (3 ∷ 4 ∷ 6 ∷ []) ∷ (3 ∷ 5 ∷ []) ∷ (4 ∷ []) ∷ [];
-}
+example4 = file 6 (18 ∷ 22 ∷ 14 ∷ 36 ∷ 17 ∷ 14 ∷ 8 ∷ 24 ∷ 14 ∷ 7 ∷ [])
+    ((5 ∷ 6 ∷ []) ∷ (3 ∷ 5 ∷ 6 ∷ []) ∷ (1 ∷ 4 ∷ []) ∷ (2 ∷ 3 ∷ 4 ∷ 6 ∷ []) ∷ (1 ∷ 2 ∷ []) ∷ (2 ∷ 6 ∷ []) ∷ (5 ∷ [])
+    ∷ (3 ∷ 4 ∷ 6 ∷ []) ∷ (3 ∷ 5 ∷ []) ∷ (4 ∷ []) ∷ [])
 
 -- columns numbered from 1, as 01 does
 unfoldable pub numbered : Answer → Answer
@@ -57,7 +53,7 @@ numbered (stopped nothing b n) = stopped nothing b n
 numbered (stopped (plan c js) b n) = stopped (plan c (map suc js)) b n
 
 abbrev pub solved : Instance → ℕ → Answer
-solved p limit = numbered (answer (sum p) p limit)
+solved p limit = let m : Matrix = p .matrix in numbered (answer (sum m) m (live (root m (p .costs))) limit)
 
 -- the limit where 01 names none
 abbrev pub usual : ℕ

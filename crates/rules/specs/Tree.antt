@@ -7,17 +7,16 @@ use lib.ListN.{length}
 use lib.Dec.{eqb, ltb}
 use Rattle.node.specs.declared.Node.{Node}
 use Rattle.node.specs.Lists.{keep, least, pick}
-use Rattle.node.specs.Instance.{Instance, width, span, meets}
-use Rattle.node.specs.Node.{freeColumns, freeOf, openRows, costAt, take, leave, taken, root}
+use Rattle.node.specs.Matrix.{Matrix, width, span, meets}
+use Rattle.node.specs.Node.{freeColumns, freeOf, openRows, costAt, take, leave, taken}
 use Rattle.rules.specs.declared.Forced.{Forced}
 use Rattle.rules.specs.Force.{force}
 use Rattle.rules.specs.Reduce.{reduce, byOrder}
-use Rattle.rules.specs.Search.{Incumbent, nothing, reaches, Visit, ended, full, split, Walk, walk, Answer, answerOf}
+use Rattle.rules.specs.Search.{Incumbent, nothing, reaches, Visit, ended, full, split, Walk, walk, lone, Answer, answerOf}
 
--- What may differ between searches: the first node, how a node is forced, the bound as a column is taken, reducing, and a column's
+-- What may differ between searches: how a node is forced, the bound as a column is taken, reducing, and a column's
 -- present cost.
 pub record Variant : Type 0 where
-  pub start : Node
   pub settle : Node → Forced
   pub join : Node → ℕ → ℕ
   pub lowered : Node → Node
@@ -28,8 +27,12 @@ abbrev pub joined : Node → ℕ → ℕ
 joined s j = s .bound + costAt s j
 
 -- the search of 01, for the least sum of costs
-abbrev pub sum : Instance → Variant
-sum p = record { start = root p; settle = force joined p; join = joined; lowered = λ s. reduce p s .node; present = costAt }
+abbrev pub sum : Matrix → Variant
+sum p = record { settle = force joined p; join = joined; lowered = λ s. reduce p s .node; present = costAt }
+
+-- a start: a first node, and whether it is alive
+abbrev pub live : Node → Forced
+live s = record { node = s; alive = true }
 
 -- a penalty: a number, or more than any number
 pub data Penalty : Type 0 where
@@ -63,7 +66,7 @@ withoutBound b [] q = b
 withoutBound b (j ∷ []) q = plus b q
 withoutBound b (j ∷ (k ∷ ks)) q = b
 
-module _ (o : Variant) (p : Instance) where
+module _ (o : Variant) (p : Matrix) where
   -- the free columns of a row at cost 0, and those above
   unfoldable pub zeros : Node → ℕ → List ℕ
   zeros s i = keep (λ j. eqb (o .present s j) 0) (freeOf p s i)
@@ -118,8 +121,9 @@ module _ (o : Variant) (p : Instance) where
   unfoldable pub visit : Node → Incumbent → Visit Node
   visit s k = visitBy (o .settle s) k
 
-  unfoldable pub fullTree : Walk
-  fullTree = walk visit (suc (width p)) (o .start) nothing
+  -- from a start, which may be dead
+  unfoldable pub fullTree : Forced → Walk
+  fullTree r = cond (r .alive) (walk visit (suc (width p)) (r .node) nothing) lone
 
   -- a node's bound after forcing and reducing, or after forcing if it is a plan
   unfoldable pub boundOf : Node → List ℕ → ℕ
@@ -127,9 +131,9 @@ module _ (o : Variant) (p : Instance) where
   boundOf s (i ∷ is) = o .lowered s .bound
 
   -- the root's lower bound (01: root floor)
-  unfoldable pub rootBound : ℕ
-  rootBound = let t : Node = o .settle (o .start) .node in boundOf t (openRows p t)
+  unfoldable pub rootBound : Forced → ℕ
+  rootBound r = let t : Node = o .settle (r .node) .node in boundOf t (openRows p t)
 
   -- the answer within a node limit (01: allowance)
-  unfoldable pub answer : ℕ → Answer
-  answer limit = answerOf fullTree rootBound limit
+  unfoldable pub answer : Forced → ℕ → Answer
+  answer r limit = answerOf (fullTree r) (rootBound r) limit

@@ -5,17 +5,19 @@ use mathlib.Core.Bool.{true}
 use mathlib.Core.List.{List}
 use Prim.Native.Nat.{ℕ, suc, _-_, _≤_, _<_}
 use native.Mathlib.Omega.{arith}
-use lib.ListN.{getD, take}
+use lib.ListN.{getD}
 use borrow.Author.Tests.{leb-true}
 use Rattle.refusals.specs.Refusals.{fine, fault, accepted, refused, front, filled}
 use Rattle.refusals.specs.declared.Refusal.{Refusal}
 use Rattle.refusals.proofs.Laws.{both, asked, stops-at, goes-on, unless-fine, unless-fault, fills}
 use Rattle.node.specs.Lists.{member}
-use Rattle.node.specs.Instance.{Instance, width, body, covers, price, IsPlan, Shows}
-use Rattle.node.specs.Stored.{Small}
+use Rattle.node.specs.Matrix.{Matrix, width, body, covers, IsPlan, Shows, Instance, price}
+use Rattle.node.specs.declared.Node.{Node}
+use Rattle.node.specs.Node.{root}
+use Rattle.node.specs.Stored.{matrixIn, Small}
 use Rattle.node.proofs.Members.{member-at}
 use Rattle.rules.specs.Search.{Answer, plan, shownBy}
-use Rattle.rules.specs.Tree.{sum}
+use Rattle.rules.specs.Tree.{sum, live, answer}
 use Rattle.rules.specs.Demand.{Demand3}
 use Rattle.rules.proofs.Plans.{plan-short}
 use Rattle.rules.proofs.Sum.{sum-demand-3}
@@ -23,12 +25,10 @@ use Rattle.dutyfile.specs.declared.Shape.{Shape}
 use Rattle.dutyfile.specs.File.{parse, instance}
 use Rattle.dutyfile.specs.Faults.{fileFault}
 use Rattle.dutyfile.proofs.Facts.{ask-within}
-use Rattle.lists.specs.Listed.{Listed}
-use Rattle.lists.proofs.Read.{listed-parts}
+use Rattle.lists.specs.Loaded.{Loaded}
 use Rattle.visit.specs.Tally.{takenIn}
 use Rattle.solver.specs.declared.Solved.{Solved}
-use Rattle.solver.specs.Solved.{Searchable, Ends, solvedAnswer}
-use Rattle.solver.proofs.Ends.{solved-answer}
+use Rattle.solver.specs.Solved.{Searchable, solvedAnswer}
 use Rattle.answer.specs.declared.SearchAnswer.{SearchAnswer}
 use Rattle.answer.specs.declared.SearchAnswer.the-variants.{Refused}
 use Rattle.answer.specs.Answer.{searchOutcome, valuesOf, planNumbers, seen}
@@ -37,7 +37,7 @@ use Rattle.answer.proofs.Given.{kept-shown}
 use Rattle.search.specs.Searching.{callFault, fileAnswer, searching, planList}
 
 -- each column covers a row
-some-row : (p : Instance) → Small p → (j : ℕ) → j < width p → (i : ℕ) × (i < p .rows) × (covers p i j ≡ true)
+some-row : (p : Matrix) → Small p → (j : ℕ) → j < width p → (i : ℕ) × (i < p .rows) × (covers p i j ≡ true)
 unfolding covers
 some-row p s j l =
     let r : ℕ = getD (body p j) 0 0 in
@@ -46,11 +46,15 @@ some-row p s j l =
     let e : suc (r - 1) ≡ r = omega (arith, w .0) in
     (r - 1, omega (arith, w .0, w .1), rw e m)
 
--- demand 3 of the answer that is seen
-abbrev pub Demanded : List ℕ → ℕ → SearchAnswer → List ℕ → Type 0
-Demanded file limit r list =
+-- demand 3 of an answer for a file, and of the answer that is seen
+abbrev FileDemand : List ℕ → ℕ → Answer → Type 0
+FileDemand file limit x =
     let p : Instance = instance (parse file) in
-    (x : Answer) → seen r list ≡ accepted x → Demand3 p (sum p) (IsPlan p) (price p) limit x
+    let m : Matrix = p .matrix in
+    Demand3 m (sum m) (live (root m (p .costs))) (IsPlan m) (price m (p .costs)) limit x
+
+abbrev Demanded : List ℕ → ℕ → SearchAnswer → List ℕ → Type 0
+Demanded file limit r list = (x : Answer) → seen r list ≡ accepted x → FileDemand file limit x
 
 -- of a refusal no answer is seen
 pub refused-demand : (s : List ℕ) (limit : ℕ) (why : Refusal) (list : List ℕ) → Demanded s limit (Refused why) list
@@ -62,45 +66,45 @@ module _ (s : List ℕ) (limit places : ℕ) where
   unfolding searching
   refused-file k h = unless-fault _ k (stops-at k _ h)
 
-  module _ (found : Shape) (costs lengths numbers : List ℕ) (l : Listed s found costs lengths numbers) where
-    pub refused-call : (k : ℕ) → callFault found places limit ≡ fault k → refused k ≡ searching s limit places
+  module _ (found : Shape) (l costs : List ℕ) (k : Loaded s found l costs) where
+    pub refused-call : (n : ℕ) → callFault found places limit ≡ fault n → refused n ≡ searching s limit places
     unfolding searching
-    refused-call k h = unless-fault _ k (goes-on _ (l .passes) ∙ rw (sym (l .shape-is)) at h)
+    refused-call n h = unless-fault _ n (goes-on _ (k .passes) ∙ rw (sym (k .shape-is)) at h)
 
-    module _ (fits : callFault found places limit ≡ fine) where
-      pub searchable : Searchable (found .rows) (found .columns) costs (take (found .columns - 0) lengths) (take (found .entries - 0) numbers) limit
+    module _ (fits : callFault found places limit ≡ fine) (first : Node) (is : first ≡ root (matrixIn l) costs) where
+      pub searchable : Searchable l first limit
       unfolding callFault
-      searchable = record {
-        some = record { p = _; stated = listed-parts _ _ _ _ _ l };
-        limited = ask-within 1 1000000 limit 11 (both _ _ fits .1) .most;
-      }
+      searchable = record { some = rw is (k .workable); limited = ask-within 1 1000000 limit 11 (both _ _ fits .1) .most }
 
-      module _ (done : Solved) (e : Ends (instance (parse s)) limit done) where
+      module _ (done : Solved) (ends : solvedAnswer (width (matrixIn l)) done ≡ answer (sum (matrixIn l)) (matrixIn l) (live first) limit) where
         answers : solvedAnswer (found .columns) done ≡ fileAnswer s limit
-        unfolding fileAnswer
-        answers = solved-answer _ _ _ _ _ _ (l .stated) limit done e
+        unfolding fileAnswer instance
+        answers = rw (← k .columns-is) (ends ∙ rw (is ∙ k .root-is, k .is))
 
-        demand : let p : Instance = instance (parse s) in Demand3 p (sum p) (IsPlan p) (price p) limit (fileAnswer s limit)
+        small : Small (instance (parse s) .matrix)
+        small = rw (k .is) at (k .kept .small)
+
+        demand : FileDemand s limit (fileAnswer s limit)
         unfolding fileAnswer
-        demand = sum-demand-3 (instance (parse s)) (l .stated .small .fits) limit
+        demand = sum-demand-3 _ (small .fits) _ limit
 
         pub plan-fits : PlanFits done (found .columns) places
-        unfolding callFault
+        unfolding callFault instance
         plan-fits = record {
-          wide = l .columns;
-          room = λ k.
-              let p : Instance = instance (parse s) in
+          wide = omega (arith, k .columns-is, k .kept .small .fits .wide);
+          room = λ h.
+              let p : Matrix = instance (parse s) .matrix in
               let js : List ℕ = takenIn (found .columns) (done .tally .plan) in
-              let h : shownBy (fileAnswer s limit) ≡ plan (done .tally .cost) js = rw answers at (kept-shown (found .columns) done k) in
-              let w : Shows p (IsPlan p) (price p) (done .tally .cost) js = demand .shown _ _ h in
+              let e : shownBy (fileAnswer s limit) ≡ plan (done .tally .cost) js = rw answers at (kept-shown (found .columns) done h) in
+              let w : Shows p (IsPlan p) (price p (parse s .costs)) (done .tally .cost) js = demand .shown _ _ e in
               let r : found .rows ≤ places = leb-true _ _ (asked _ 10 (both _ _ fits .0)) in
-              omega (arith, plan-short p (some-row p (l .stated .small)) js (w .listed) (w .ok), l .stated .rows-is, r);
+              omega (arith, plan-short p (some-row p small) js (w .listed) (w .ok), rw (k .is) at (k .rows-is), r);
         }
 
         module _ (r : SearchAnswer) (told : searchOutcome r ≡ accepted (valuesOf (solvedAnswer (found .columns) done))) where
           pub given-answer : searchOutcome r ≡ searching s limit places
           unfolding searching
-          given-answer = told ∙ rw answers (unless-fine (valuesOf (fileAnswer s limit)) (goes-on _ (l .passes) ∙ rw (sym (l .shape-is)) at fits))
+          given-answer = told ∙ rw answers (unless-fine (valuesOf (fileAnswer s limit)) (goes-on _ (k .passes) ∙ rw (sym (k .shape-is)) at fits))
 
           pub given-plan : (new old : List ℕ) → new ≡ front (planNumbers (shownBy (solvedAnswer (found .columns) done))) old →
               new ≡ filled (searchOutcome r) (planList s limit) old

@@ -1,4 +1,4 @@
-// The public search call on a file: the file is read into lists, these are searched, and the plan shown is written.
+// The public search call on a file: the file is read as a matrix and costs, searched from its root, and the plan shown is written.
 use answer::SearchAnswer;
 use dutyfile::Shape;
 use examine::ReadAnswer;
@@ -7,9 +7,10 @@ use refusals::Refusal;
 ghost use mathlib.Core.Path.{_≡_};
 ghost use lib.ListN.{length};
 ghost use Rattle.refusals.specs.Refusals.{faultOf, accepted, filled};
-ghost use Rattle.node.specs.Instance.{Instance, price, IsPlan};
+ghost use Rattle.node.specs.Matrix.{Matrix, IsPlan, Instance, price};
+ghost use Rattle.node.specs.Node.{root};
 ghost use Rattle.rules.specs.Search.{Answer};
-ghost use Rattle.rules.specs.Tree.{sum};
+ghost use Rattle.rules.specs.Tree.{sum, live};
 ghost use Rattle.rules.specs.Demand.{Demand3};
 ghost use Rattle.dutyfile.specs.File.{parse, instance};
 ghost use Rattle.answer.specs.Answer.{searchOutcome, seen};
@@ -36,12 +37,11 @@ fn check_call(found: Shape, places: usize, limit: u32) -> Check
 pub fn search(file: &[u8], limit: u32, plan: &mut [u16]) -> SearchAnswer
     ensures { λ r. ⌜ searchOutcome r ≡ searching (now (file .entry)) limit (length (now (plan .entry))) ⌝ }
     ensures { λ r. ⌜ now (plan .exit) ≡ filled (searchOutcome r) (planList (now (file .entry)) limit) (now (plan .entry)) ⌝ }
-    ensures { λ r. ⌜ (let p : Instance = instance (parse (now (file .entry))) in (x : Answer) → seen r (now (plan .exit)) ≡ accepted x → Demand3 p (sum p) (IsPlan p) (price p) limit x) ⌝ }
+    ensures { λ r. ⌜ (let p : Instance = instance (parse (now (file .entry))) in let m : Matrix = p .matrix in (x : Answer) → seen r (now (plan .exit)) ≡ accepted x → Demand3 m (sum m) (live (root m (p .costs))) (IsPlan m) (price m (p .costs)) limit x) ⌝ }
 {
+    let mut matrix = matrix::no_cells();
     let mut costs = lists::no_costs();
-    let mut lengths = lists::no_lengths();
-    let mut numbers = lists::no_numbers();
-    let found = lists::read_lists(file, &mut costs, &mut lengths, &mut numbers);
+    let found = lists::read_matrix(file, &mut matrix, &mut costs);
     match found {
         ReadAnswer::Refused(why) => SearchAnswer::Refused(why),
         ReadAnswer::Accepted(shape) => {
@@ -49,17 +49,9 @@ pub fn search(file: &[u8], limit: u32, plan: &mut [u16]) -> SearchAnswer
             match test {
                 Check::Failed(why) => SearchAnswer::Refused(why),
                 Check::Passed => {
-                    let columns = shape.columns;
-                    let entries = shape.entries;
-                    let done = solver::search_lists(
-                        shape.rows,
-                        columns,
-                        costs,
-                        &lengths[0..columns],
-                        &numbers[0..entries],
-                        limit,
-                    );
-                    answer::give(done, columns, plan)
+                    let root = matrix::root_node(&matrix, costs);
+                    let done = solver::search_from(root, &matrix, limit);
+                    answer::give(done, shape.columns, plan)
                 }
             }
         }

@@ -1,38 +1,29 @@
-// The search on lists: the tally of the walk within a node limit, and the root's lower bound.
+// The search of a matrix from a first node: the tally of the walk within a node limit, and the first node's lower bound.
+use node::Node;
 use visit::Tally;
 use visit::fresh_tally;
 use visit::settled_bound;
-ghost use Rattle.node.specs.Instance.{Instance};
-ghost use Rattle.matrix.specs.Stated.{Stated};
-ghost use Rattle.solver.specs.Solved.{Searchable, Ends};
+ghost use mathlib.Core.Path.{_≡_};
+ghost use Rattle.node.specs.Matrix.{Matrix, width};
+ghost use Rattle.node.specs.Stored.{matrixIn};
+ghost use Rattle.rules.specs.Tree.{sum, live, answer};
+ghost use Rattle.solver.specs.Solved.{Searchable, solvedAnswer};
 
-// A walk's tally at its end, and the root's lower bound.
+// A walk's tally at its end, and the first node's lower bound.
 pub struct Solved {
     pub tally: Tally,
     // 01's root floor.
     pub bound: u32,
 }
 
-// Searches the instance that lists state.
-pub fn search_lists(
-    rows: usize,
-    columns: usize,
-    costs: [u32; 256],
-    lengths: &[u16],
-    numbers: &[u8],
-    limit: u32,
-) -> Solved
-    requires { ⌜ Searchable rows columns costs (now lengths) (now numbers) limit ⌝ }
-    ensures { λ r. ⌜ ((p : Instance) → Stated p rows columns costs (now (lengths .entry)) (now (numbers .entry)) → Ends p limit r) ⌝ }
+// Searches a matrix from a first node within a node limit.
+pub fn search_from(first: Node, matrix: &[u16], limit: u32) -> Solved
+    requires { ⌜ Searchable (now matrix) first limit ⌝ }
+    ensures { λ r. ⌜ (let p : Matrix = matrixIn (now (matrix .entry)) in solvedAnswer (width p) r ≡ answer (sum p) p (live first) limit) ⌝ }
 {
-    let starts = matrix::column_starts(lengths);
-    let kept = matrix::by_rows(rows, columns, &starts, numbers);
-    let heads = kept.heads;
-    let entries = kept.entries;
-    let root = matrix::root_node(rows, columns, costs);
-    let bound = settled_bound(root, rows, &starts, numbers, &heads, &entries);
+    let bound = settled_bound(first, matrix);
     let fresh = fresh_tally(limit);
-    let tally = tree::node(root, fresh, rows, &starts, numbers, &heads, &entries);
+    let tally = tree::node(first, fresh, matrix);
     Solved {
         tally: tally,
         bound: bound,

@@ -1,20 +1,24 @@
 -- What is accepted is small, since the tests of a file and of lists bound its numbers.
 use mathlib.Core.Path.{_≡_, refl, ap, sym}
+use mathlib.Core.Bool.{Bool}
 use mathlib.Core.List.{List}
 use Prim.Native.Nat.{ℕ, _≤_}
 use native.Mathlib.Omega.{arith}
 use lib.ListN.{length}
 use Rattle.refusals.proofs.Laws.{both, accepts}
 use Rattle.node.specs.Lists.{keep, upto}
-use Rattle.node.specs.Instance.{Instance, FitsNode, width, chosen, price, IsPlan}
+use Rattle.node.specs.Matrix.{Matrix, width, chosen}
+use Rattle.node.specs.Stored.{FitsNode}
 use Rattle.node.proofs.Members.{keep-upto}
+use Rattle.node.specs.declared.Node.{Node}
 use Rattle.node.specs.Node.{root}
 use Rattle.rules.specs.Reduce as rules
 use Rattle.rules.specs.Search.{nothing, plan, Answer, best, none, stopped, shownBy}
-use Rattle.rules.specs.Tree.{sum, answer}
+use Rattle.rules.specs.declared.Forced.{Forced}
+use Rattle.rules.specs.Tree.{Variant}
 use Rattle.rules.specs.Demand.{Demand3}
 use Rattle.rules.proofs.Sum.{sum-demand-3}
-use Rattle.rules.proofs.Reducing.{reduce-used}
+use Rattle.rules.proofs.Reducing.{used-few}
 use Rattle.dutyfile.specs.File.{Lists, parse, render, instance, shape}
 use Rattle.dutyfile.specs.Faults.{contentsFault, reading, writing}
 use Rattle.dutyfile.proofs.Facts.{Accepted, file-fine, contents-small}
@@ -50,24 +54,26 @@ pub checking-fits : (s js : List ℕ) → RowFits (checking s js)
 unfolding checking instance parse
 checking-fits s js row times e =
     let t = accepts _ _ _ e in
-    let q = verdict-not-once (instance (parse s)) (named js) row times (t .1) in
+    let q = verdict-not-once _ _ (named js) row times (t .1) in
     let a = file-fine s (both _ _ (t .0) .0) in
     omega (arith, q .1, q .2 .within, file-small s a .fits .tall)
 
 pub reducing-fits : (s : List ℕ) (c o : ℕ) → UsedFits (reducing s c o)
-unfolding reducing boundOf reducedRoot
+unfolding reducing boundOf reducedRoot instance
 reducing-fits s c o found e =
     let t = accepts _ _ _ e in
     let a = file-fine s (both _ _ (t .0) .0) in
-    let p : Instance = instance (parse s) in
-    let u : found .used ≡ length (rules.reduce p (root p) .used) = sym (ap (λ (x : Bound). x .used) (t .1)) in
-    omega (arith, u, reduce-used p (file-small s a .fits) (root p), file-small s a .fits .tall)
+    let p : Matrix = instance (parse s) .matrix in
+    let F : FitsNode p = file-small s a .fits in
+    let s₀ : Node = root p (parse s .costs) in
+    let u : found .used ≡ length (rules.reduce p s₀ .used) = sym (ap (λ (x : Bound). x .used) (t .1)) in
+    omega (arith, u, used-few p F s₀, F .tall)
 
 -- a plan shown has no more columns than there are
-values-low : (p : Instance) → width p ≤ 256 → (limit : ℕ) (x : Answer) → Demand3 p (sum p) (IsPlan p) (price p) limit x →
-    columnsIn (valuesOf x) ≤ 256
+values-low : (p : Matrix) → width p ≤ 256 → (o : Variant) (start : Forced) (Ok : (ℕ → Bool) → Type 0) (value : (ℕ → Bool) → ℕ) (limit : ℕ)
+    (x : Answer) → Demand3 p o start Ok value limit x → columnsIn (valuesOf x) ≤ 256
 unfolding valuesOf shownOf columnsIn shownBy
-values-low p w limit x d = go x refl
+values-low p w o start Ok value limit x d = go x refl
   where
     few : (c : ℕ) (js : List ℕ) → shownBy x ≡ plan c js → length js ≤ 256
     few c js e = let h : length (keep (chosen js) (upto (width p))) ≡ length js = ap length (d .shown c js e .listed) in
@@ -84,6 +90,5 @@ unfolding searching fileAnswer
 searching-fits s limit places v e =
     let t = accepts _ _ _ e in
     let a = file-fine s (both _ _ (t .0) .0) in
-    let p : Instance = instance (parse s) in
-    let F : FitsNode p = file-small s a .fits in
-    rw (sym (t .1)) (values-low p (F .wide) limit (answer (sum p) p limit) (sum-demand-3 p F limit))
+    let F : FitsNode (instance (parse s) .matrix) = file-small s a .fits in
+    rw (sym (t .1)) (values-low _ (F .wide) _ _ _ _ limit _ (sum-demand-3 _ F _ limit))

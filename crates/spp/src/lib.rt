@@ -8,8 +8,9 @@ use flat::SppWritten;
 ghost use mathlib.Core.Path.{_≡_};
 ghost use lib.ListN.{length};
 ghost use Rattle.refusals.specs.Refusals.{filled};
-ghost use Rattle.node.specs.Instance.{Instance, price, IsPlan};
-ghost use Rattle.rules.specs.Tree.{sum};
+ghost use Rattle.node.specs.Matrix.{Matrix, IsPlan, Instance, price};
+ghost use Rattle.node.specs.Node.{root};
+ghost use Rattle.rules.specs.Tree.{sum, live};
 ghost use Rattle.rules.specs.Demand.{Demand3};
 ghost use Rattle.dutyfile.specs.File.{parse, lists, render, instance};
 ghost use Rattle.dutyfile.specs.Faults.{reading, writing};
@@ -78,7 +79,7 @@ pub extern "C" fn spp_core_reduce(file: &[u8], reduced: &mut [u32], order: &mut 
 pub extern "C" fn spp_core_search(file: &[u8], node_limit: u32, plan: &mut [u16]) -> SppAnswer
     ensures { λ r. ⌜ r ≡ answerOf (searching (now (file .entry)) «node_limit» (length (now (plan .entry)))) ⌝ }
     ensures { λ _. ⌜ now (plan .exit) ≡ filled (searching (now (file .entry)) «node_limit» (length (now (plan .entry)))) (planList (now (file .entry)) «node_limit») (now (plan .entry)) ⌝ }
-    ensures { λ r. ⌜ (let p : Instance = instance (parse (now (file .entry))) in r .refusal ≡ 0 → Demand3 p (sum p) (IsPlan p) (price p) «node_limit» (seenIn r (now (plan .exit)))) ⌝ }
+    ensures { λ r. ⌜ (let p : Instance = instance (parse (now (file .entry))) in let m : Matrix = p .matrix in r .refusal ≡ 0 → Demand3 m (sum m) (live (root m (p .costs))) (IsPlan m) (price m (p .costs)) «node_limit» (seenIn r (now (plan .exit)))) ⌝ }
 {
     let answer = search::search(file, node_limit, plan);
     flat::flat_answer(answer)

@@ -1,4 +1,3 @@
-pub mod Frees
 pub mod Settles
 pub mod Choosing
 pub mod Walking

@@ -10,7 +10,7 @@ use lib.ListN.{length, getD, drop, set, length-set, drop-of-length-le}
 use lib.Seq.{getD-set-same, getD-set-other}
 use Rattle.node.proofs.Loops.{drop-step}
 use Rattle.node.specs.Lists.{member, on}
-use Rattle.node.specs.Instance.{Instance, body, covers}
+use Rattle.node.specs.Matrix.{Matrix, body, covers}
 use Rattle.dutyfile.specs.Faults.{rising}
 use Rattle.dutyfile.proofs.Rising.{rising-cons, rising-at}
 use Rattle.verify.specs.Counts.{counted, countedAll, tally}
@@ -49,7 +49,7 @@ counted-at low (suc y ∷ rs) c i e l =
       member-suc y 64 rs i 1 (f .2),
     ))
 
-pub counted-all-at : (p : Instance) (js c : List ℕ) (i : ℕ) → ((j : ℕ) → rising 0 64 (body p j) ≡ true) → length c ≡ 64 →
+pub counted-all-at : (p : Matrix) (js c : List ℕ) (i : ℕ) → ((j : ℕ) → rising 0 64 (body p j) ≡ true) → length c ≡ 64 →
     getD (countedAll p js c) i 0 ≡ getD c i 0 + tally (λ j. on (covers p i j) 1) js
 unfolding countedAll tally covers
 counted-all-at p [] c i r l = omega arith

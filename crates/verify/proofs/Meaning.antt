@@ -1,11 +1,12 @@
 -- What a verdict means: a plan exactly where each row is covered once, and otherwise the lowest row that is not.
 use mathlib.Core.Path.{_≡_, refl, ap, sym, _∙_}
 use mathlib.Core.Bool.{Bool, true, false, cond}
+use mathlib.Core.List.{List}
 use Prim.Native.Nat.{ℕ, zero, suc, _+_, _≤_, _<_}
 use native.Mathlib.Omega.{arith}
 use borrow.Author.Tests.{eqb-true, eqb-false}
 use lib.Dec.{eqb}
-use Rattle.node.specs.Instance.{Instance, count, price, IsPlan}
+use Rattle.node.specs.Matrix.{Matrix, count, IsPlan, price}
 use Rattle.verify.specs.Verdict.{Verdict, plan, notOnce, lowest, verdict}
 
 -- of m rows from row i on, row r is the lowest that is not covered once, and it is covered k times
@@ -61,25 +62,25 @@ module _ (covered : ℕ → ℕ) (cost : ℕ) where
       go false e s = (i, refl, record { from = omega arith; within = omega arith; times = refl; off = eqb-false _ _ e; before = λ j l h. absurd (omega arith) })
 
 -- A verdict on a choice of columns: it is a plan at its price, or its lowest row that is not covered exactly once is told.
-pub record Plan (p : Instance) (X : ℕ → Bool) (c : ℕ) : Type 0 where
+pub record Plan (p : Matrix) (costs : List ℕ) (X : ℕ → Bool) (c : ℕ) : Type 0 where
   pub covers : IsPlan p X
-  pub costs : price p X ≡ c
+  pub priced : price p costs X ≡ c
 
-pub verdict-plan : (p : Instance) (X : ℕ → Bool) (c : ℕ) → verdict p X ≡ plan c → Plan p X c
+pub verdict-plan : (p : Matrix) (costs : List ℕ) (X : ℕ → Bool) (c : ℕ) → verdict p costs X ≡ plan c → Plan p costs X c
 unfolding verdict Says
-verdict-plan p X c e =
-    let s = rw e at (lowest-says (λ i. count p i X) (price p X) (p .rows) 0) in
-    record { covers = λ i h. s .0 i (omega arith) (omega arith); costs = s .1 }
+verdict-plan p costs X c e =
+    let s = rw e at (lowest-says (λ i. count p i X) (price p costs X) (p .rows) 0) in
+    record { covers = λ i h. s .0 i (omega arith) (omega arith); priced = s .1 }
 
-pub verdict-not-once : (p : Instance) (X : ℕ → Bool) (r k : ℕ) → verdict p X ≡ notOnce r k → (q : ℕ) × (r ≡ suc q) × Lowest (λ i. count p i X) (p .rows) 0 q k
+pub verdict-not-once : (p : Matrix) (costs : List ℕ) (X : ℕ → Bool) (r k : ℕ) → verdict p costs X ≡ notOnce r k → (q : ℕ) × (r ≡ suc q) × Lowest (λ i. count p i X) (p .rows) 0 q k
 unfolding verdict Says
-verdict-not-once p X r k e = rw e at (lowest-says (λ i. count p i X) (price p X) (p .rows) 0)
+verdict-not-once p costs X r k e = rw e at (lowest-says (λ i. count p i X) (price p costs X) (p .rows) 0)
 
-pub plan-verdict : (p : Instance) (X : ℕ → Bool) → IsPlan p X → verdict p X ≡ plan (price p X)
-plan-verdict p X h = go (verdict p X) refl
+pub plan-verdict : (p : Matrix) (costs : List ℕ) (X : ℕ → Bool) → IsPlan p X → verdict p costs X ≡ plan (price p costs X)
+plan-verdict p costs X h = go (verdict p costs X) refl
   where
-    go : (v : Verdict) → verdict p X ≡ v → verdict p X ≡ plan (price p X)
-    go (plan c) e = e ∙ ap plan (sym (verdict-plan p X c e .costs))
+    go : (v : Verdict) → verdict p costs X ≡ v → verdict p costs X ≡ plan (price p costs X)
+    go (plan c) e = e ∙ ap plan (sym (verdict-plan p costs X c e .priced))
     go (notOnce r k) e =
-        let d = verdict-not-once p X r k e in
+        let d = verdict-not-once p costs X r k e in
         absurd (d .2 .off (sym (d .2 .times) ∙ h (d .0) (omega (arith, d .2 .within))))

@@ -11,15 +11,15 @@ use lib.ListN.{getD}
 use Rattle.refusals.specs.Refusals.{fine, accepted, refused, unless}
 use Rattle.refusals.proofs.Laws.{stops-at, goes-on, passes, fails, unless-fine, unless-fault, refuses}
 use Rattle.node.specs.Lists.{on}
-use Rattle.node.specs.Instance.{width, covers, count, price}
+use Rattle.node.specs.Matrix.{covers, count, price}
 use Rattle.dutyfile.specs.File.{rowsIn, columnsIn, parse, instance, shape}
 use Rattle.dutyfile.specs.Faults.{rising, fileFault}
-use Rattle.dutyfile.proofs.Entries.{length-costs}
+use Rattle.dutyfile.proofs.Columns.{file-width}
 use Rattle.verify.specs.Counts.{noneCovered, countedAll, tally}
 use Rattle.verify.specs.Verdict.{named, plan, notOnce, lowest, verdict, checking}
 use Rattle.verify.proofs.Sums.{tally-total}
 use Rattle.verify.proofs.Counting.{counted-all-at}
-use Rattle.verify.proofs.Walk.{fileInstance, Offered, body-rises, none-at}
+use Rattle.verify.proofs.Walk.{fileMatrix, Offered, body-rises, none-at}
 
 -- row by row
 module _ (covered : ℕ → ℕ) (cost m i : ℕ) (inside : i < m) where
@@ -48,32 +48,28 @@ lowest-same f g cost (suc m) i h = rw (h i (omega arith), lowest-same f g cost m
 
 -- an accepted file and a list of its columns
 module _ (s js : List ℕ) (o : Offered s js) where
-  wide : width (fileInstance s) ≡ columnsIn s
-  unfolding instance
-  wide = length-costs s
-
-  covered-is : (i : ℕ) → getD (countedAll (fileInstance s) js noneCovered) i 0 ≡ count (fileInstance s) i (named js)
+  covered-is : (i : ℕ) → getD (countedAll (fileMatrix s) js noneCovered) i 0 ≡ count (fileMatrix s) i (named js)
   unfolding count
   covered-is i =
-      rw wide
+      rw (file-width s)
       (omega (
         arith,
-        counted-all-at (fileInstance s) js noneCovered i (body-rises s js o) refl,
+        counted-all-at (fileMatrix s) js noneCovered i (body-rises s js o) refl,
         none-at 64 i,
-        tally-total 0 (columnsIn s) js (λ j. on (covers (fileInstance s) i j) 1) (o .rises),
+        tally-total 0 (columnsIn s) js (λ j. on (covers (fileMatrix s) i j) 1) (o .rises),
       ))
 
-  cost-is : tally (λ j. getD (parse s .costs) j 0) js ≡ price (fileInstance s) (named js)
-  unfolding price instance
-  cost-is = rw (length-costs s) (tally-total 0 (columnsIn s) js (λ j. getD (parse s .costs) j 0) (o .rises))
+  cost-is : tally (λ j. getD (parse s .costs) j 0) js ≡ price (fileMatrix s) (parse s .costs) (named js)
+  unfolding price
+  cost-is = rw (file-width s) (tally-total 0 (columnsIn s) js (λ j. getD (parse s .costs) j 0) (o .rises))
 
-  pub verdict-is : (cost : ℕ) (covered : List ℕ) (rows : ℕ) → covered ≡ countedAll (fileInstance s) js noneCovered →
+  pub verdict-is : (cost : ℕ) (covered : List ℕ) (rows : ℕ) → covered ≡ countedAll (fileMatrix s) js noneCovered →
       cost ≡ tally (λ j. getD (parse s .costs) j 0) js → rows ≡ rowsIn s →
-      lowest (λ i. getD covered i 0) cost rows 0 ≡ verdict (fileInstance s) (named js)
+      lowest (λ i. getD covered i 0) cost rows 0 ≡ verdict (fileMatrix s) (parse s .costs) (named js)
   unfolding verdict instance parse
   verdict-is cost covered rows e f r =
       rw (e, f, r, cost-is)
-      (lowest-same (λ i. getD (countedAll (fileInstance s) js noneCovered) i 0) (λ i. count (fileInstance s) i (named js)) (price (fileInstance s) (named js)) (rowsIn s) 0 (λ i l. covered-is i))
+      (lowest-same (λ i. getD (countedAll (fileMatrix s) js noneCovered) i 0) (λ i. count (fileMatrix s) i (named js)) (price (fileMatrix s) (parse s .costs) (named js)) (rowsIn s) 0 (λ i l. covered-is i))
 
 -- the ways out of checking
 module _ (s js : List ℕ) where
@@ -86,6 +82,6 @@ module _ (s js : List ℕ) where
     unfolding checking
     checking-not-rising e = unless-fault _ 12 (goes-on _ f ∙ fails 12 e)
 
-    pub checking-done : rising 0 (columnsIn s) js ≡ true → accepted (verdict (fileInstance s) (named js)) ≡ checking s js
-    unfolding checking
+    pub checking-done : rising 0 (columnsIn s) js ≡ true → accepted (verdict (fileMatrix s) (parse s .costs) (named js)) ≡ checking s js
+    unfolding checking instance
     checking-done e = unless-fine _ (goes-on _ f ∙ passes 12 e)

@@ -6,7 +6,7 @@ use Prim.Native.Nat.{ℕ, zero, suc, _+_, _*_, _-_, _≤_, _<_}
 use native.Mathlib.Omega.{arith}
 use lib.ListN.{length, getD, take, drop, replicate, drop-of-length-le}
 use Rattle.node.proofs.Loops.{drop-step}
-use Rattle.node.specs.Instance.{Instance, body}
+use Rattle.node.specs.Matrix.{Matrix, body}
 use Rattle.refusals.specs.Refusals.{fine}
 use Rattle.dutyfile.specs.declared.Entry.{Entry}
 use Rattle.dutyfile.specs.File.{rowsIn, columnsIn, bodiesAt, entryOf, parse, bodies, instance}
@@ -17,8 +17,8 @@ use Rattle.dutyfile.proofs.Rising.{rising-at, rising-short, rising-wider, bodie
 use Rattle.verify.specs.Counts.{noneCovered, counted, countedAll, tally}
 use Rattle.verify.proofs.Counting.{length-counted, counted-le}
 
-abbrev pub fileInstance : List ℕ → Instance
-fileInstance s = instance (parse s)
+abbrev pub fileMatrix : List ℕ → Matrix
+fileMatrix s = instance (parse s) .matrix
 
 -- an accepted file and a list of its columns
 pub record Offered (s js : List ℕ) : Type 0 where
@@ -30,7 +30,7 @@ offered s js f r = record { file = file-fine s f; rises = r }
 
 module _ (s js : List ℕ) (o : Offered s js) where
   -- each body rises within 64 rows
-  pub body-rises : (j : ℕ) → rising 0 64 (body (fileInstance s) j) ≡ true
+  pub body-rises : (j : ℕ) → rising 0 64 (body (fileMatrix s) j) ≡ true
   unfolding instance rowsFault
   body-rises j =
       rising-wider 0 (rowsIn s) 64 _ (bodies-rise (rowsIn s) (bodies (parse s .lengths) (parse s .numbers)) j (o .file .rising)) (o .file .walked .header .counts .rows .most)
@@ -56,7 +56,7 @@ module _ (s js : List ℕ) (o : Offered s js) where
 
     -- its body is the part of the file from its start for its length
     pub part-here : (e : Entry) → e ≡ entryOf (drop (bodiesAt (getD js k 0 - 1)) s) →
-        take (e .start + e .size - e .start) (drop (e .start) s) ≡ body (fileInstance s) (getD js k 0 - 1)
+        take (e .start + e .size - e .start) (drop (e .start) s) ≡ body (fileMatrix s) (getD js k 0 - 1)
     unfolding instance
     part-here e is =
         let z : e .start + e .size - e .start ≡ e .size = omega arith in
@@ -68,7 +68,7 @@ pub record Covering (s js out : List ℕ) (k : ℕ) : Type 0 where
   pub sized : length out ≡ 64
   pub within : k ≤ length js
   pub room : (i : ℕ) → getD out i 0 ≤ k
-  pub left : countedAll (fileInstance s) (drop k js) out ≡ countedAll (fileInstance s) js noneCovered
+  pub left : countedAll (fileMatrix s) (drop k js) out ≡ countedAll (fileMatrix s) js noneCovered
 
 pub none-at : (n i : ℕ) → getD (replicate n 0) i 0 ≡ zero
 none-at zero i = refl
@@ -91,7 +91,7 @@ module _ (s js : List ℕ) where
       pub covering-next : (next : List ℕ) → next ≡ counted (take (e .start + e .size - e .start) (drop (e .start) s)) out → Covering s js next (k + 1)
       unfolding countedAll
       covering-next next q =
-          let b : List ℕ = body (fileInstance s) (getD js k 0 - 1) in
+          let b : List ℕ = body (fileMatrix s) (getD js k 0 - 1) in
           let n : next ≡ counted b out = rw (part-here s js (w .offer) k inside e is) at q in
           record {
             offer = w .offer;
@@ -101,7 +101,7 @@ module _ (s js : List ℕ) where
             left = rw n (rw (drop-step js k inside) at (w .left));
           }
 
-    pub covering-end : length js ≤ k → out ≡ countedAll (fileInstance s) js noneCovered
+    pub covering-end : length js ≤ k → out ≡ countedAll (fileMatrix s) js noneCovered
     unfolding countedAll
     covering-end h = rw (drop-of-length-le js h) at (w .left)
 

@@ -2,7 +2,7 @@
 use mathlib.Core.List.{List, [], _∷_}
 use Prim.Native.Nat.{ℕ, _+_, _-_}
 use lib.ListN.{getD, set, replicate}
-use Rattle.node.specs.Instance.{Instance, body}
+use Rattle.node.specs.Matrix.{Matrix, body}
 
 -- no row is covered
 abbrev pub noneCovered : List ℕ
@@ -14,7 +14,7 @@ counted [] c = c
 counted (r ∷ rs) c = counted rs (set c (r - 1) (getD c (r - 1) 0 + 1))
 
 -- with the bodies of a list of columns counted, numbered from 1
-unfoldable pub countedAll : Instance → List ℕ → List ℕ → List ℕ
+unfoldable pub countedAll : Matrix → List ℕ → List ℕ → List ℕ
 countedAll p [] c = c
 countedAll p (j ∷ js) c = countedAll p js (counted (body p (j - 1)) c)
 

@@ -65,7 +65,7 @@ fn none_covered() -> [u32; 64]
 fn cover_counts(file: &[u8], columns: &[u16]) -> [u32; 64]
     requires { ⌜ fileFault (now file) ≡ fine ⌝ }
     requires { ⌜ rising 0 (columnsIn (now file)) (now columns) ≡ true ⌝ }
-    ensures { λ r. ⌜ r ≡ countedAll (instance (parse (now (file .entry)))) (now (columns .entry)) noneCovered ⌝ }
+    ensures { λ r. ⌜ r ≡ countedAll (instance (parse (now (file .entry))) .matrix) (now (columns .entry)) noneCovered ⌝ }
 {
     let mut covered = none_covered();
     let mut k = 0;

@@ -21,6 +21,6 @@ keptBy true c js = plan c js
 abbrev pub keptIn : ℕ → Tally → Incumbent
 keptIn w t = keptBy (t .kept) (t .cost) (takenIn w (t .plan))
 
--- of an instance with w columns
+-- of a matrix with w columns
 abbrev pub shown : ℕ → Tally → rules.Tally
 shown w t = record { nodes = t .nodes; left = t .left; stopped = t .stopped; kept = keptIn w t }

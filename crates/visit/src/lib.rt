@@ -2,17 +2,21 @@
 use forcing::force;
 use lowering::reduce_node;
 use node::Node;
+use node::row_count;
 ghost use mathlib.Core.Path.{_≡_};
 ghost use mathlib.Core.Bool.{true, _&&_};
-ghost use Prim.Native.Nat.{ℕ, _+_, _≤_, _<_};
+ghost use mathlib.Core.List.{[]};
+ghost use Prim.Native.Nat.{ℕ, _+_, _<_};
 ghost use lib.Dec.{leb};
-ghost use Rattle.node.specs.Instance.{Instance, width};
-ghost use Rattle.node.specs.declared.Node.{Node};
 ghost use Rattle.node.specs.Lists.{isEmpty};
-ghost use Rattle.node.specs.Node.{openRows, taken};
+ghost use Rattle.node.specs.Node.{openRows};
+ghost use Rattle.node.specs.View.{view};
+ghost use Rattle.node.specs.Stored.{matrixIn, Kept};
 ghost use Rattle.rules.specs.Limited.{fresh, entered, halted, offered};
-ghost use Rattle.visit.specs.Tally.{shown};
-ghost use Rattle.visit.specs.Settled.{Kept, SomeNode, settled, boundAfter};
+ghost use Rattle.rules.specs.Tree.{sum, live, rootBound};
+ghost use Rattle.rules.proofs.Costs.{Workable};
+ghost use Rattle.visit.specs.Tally.{takenIn, shown};
+ghost use Rattle.visit.specs.Settled.{settled};
 
 // What a walk has come to so far.
 pub struct Tally {
@@ -88,7 +92,7 @@ fn keep(t: Tally, s: Node) -> Tally
 
 // A plan is met: the taken columns of a node with no open row.
 pub fn offer(t: Tally, s: Node) -> Tally
-    ensures { λ r. ⌜ ((p : Instance) → shown (width p) r ≡ offered (shown (width p) t) (s .bound) (taken p s)) ⌝ }
+    ensures { λ r. ⌜ ((w : ℕ) → shown w r ≡ offered (shown w t) (s .bound) (takenIn w (s .column))) ⌝ }
 {
     if is_reached(s.bound, t.kept, t.cost) {
         return t;
@@ -97,10 +101,11 @@ pub fn offer(t: Tally, s: Node) -> Tally
 }
 
 // Whether no row is open.
-fn is_full(row: &[u8; 64], rows: usize) -> bool
-    requires { ⌜ rows ≤ 64 ⌝ }
-    ensures { λ r. ⌜ ((p : Instance) (s : Node) → s .row ≡ now (row .entry) → rows ≡ p .rows → r ≡ isEmpty (openRows p s)) ⌝ }
+fn is_full(row: &[u8; 64], matrix: &[u16]) -> bool
+    requires { ⌜ Kept (now matrix) ⌝ }
+    ensures { λ r. ⌜ r ≡ isEmpty (openRows (matrixIn (now (matrix .entry))) (view [] [] (now (row .entry)))) ⌝ }
 {
+    let rows = row_count(matrix);
     let mut i = 0;
     while i < rows {
         if row[i] == 1 {
@@ -121,18 +126,11 @@ pub struct Settled {
 }
 
 // Forces a node, and reduces it where it is alive and has open rows.
-pub fn settle(
-    s: Node,
-    rows: usize,
-    starts: &[u16; 257],
-    numbers: &[u8],
-    heads: &[u16; 65],
-    entries: &[u8],
-) -> Settled
-    requires { ⌜ SomeNode s rows (now starts) (now numbers) (now heads) (now entries) ⌝ }
-    ensures { λ r. ⌜ ((p : Instance) → Kept p rows (now (starts .entry)) (now (numbers .entry)) (now (heads .entry)) (now (entries .entry)) → r ≡ settled p s) ⌝ }
+pub fn settle(s: Node, matrix: &[u16]) -> Settled
+    requires { ⌜ Workable (now matrix) s ⌝ }
+    ensures { λ r. ⌜ r ≡ settled (sum (matrixIn (now (matrix .entry)))) (matrixIn (now (matrix .entry))) s ⌝ }
 {
-    let forced = force(s, rows, starts, numbers, heads, entries);
+    let forced = force(s, matrix);
     let node = forced.node;
     if !forced.alive {
         return Settled {
@@ -141,14 +139,14 @@ pub fn settle(
             full: false,
         };
     }
-    if is_full(&node.row, rows) {
+    if is_full(&node.row, matrix) {
         return Settled {
             node: node,
             alive: true,
             full: true,
         };
     }
-    let done = reduce_node(node, rows, starts, heads, entries);
+    let done = reduce_node(node, matrix);
     let reduced = done.node;
     Settled {
         node: reduced,
@@ -158,23 +156,16 @@ pub fn settle(
 }
 
 // The bound of a node after forcing and reducing, or after forcing if it is a plan (01, of the root: root floor).
-pub fn settled_bound(
-    s: Node,
-    rows: usize,
-    starts: &[u16; 257],
-    numbers: &[u8],
-    heads: &[u16; 65],
-    entries: &[u8],
-) -> u32
-    requires { ⌜ SomeNode s rows (now starts) (now numbers) (now heads) (now entries) ⌝ }
-    ensures { λ r. ⌜ ((p : Instance) → Kept p rows (now (starts .entry)) (now (numbers .entry)) (now (heads .entry)) (now (entries .entry)) → r ≡ boundAfter p s) ⌝ }
+pub fn settled_bound(s: Node, matrix: &[u16]) -> u32
+    requires { ⌜ Workable (now matrix) s ⌝ }
+    ensures { λ r. ⌜ r ≡ rootBound (sum (matrixIn (now (matrix .entry)))) (matrixIn (now (matrix .entry))) (live s) ⌝ }
 {
-    let found = settle(s, rows, starts, numbers, heads, entries);
+    let found = settle(s, matrix);
     let node = found.node;
     if found.alive {
         return node.bound;
     }
-    let done = reduce_node(node, rows, starts, heads, entries);
+    let done = reduce_node(node, matrix);
     let reduced = done.node;
     reduced.bound
 }

@@ -4,38 +4,42 @@ use Prim.Native.Nat.{_-_}
 use native.Mathlib.Omega.{arith}
 use borrow.Author.Needs.{needs}
 use borrow.Author.Tests.{not-false}
-use Rattle.candidates.proofs.Best.{Choosing, choosing-start, choosing-low, choosing-open, choosing-zero, choosing-closed, choosing-end}
+use Rattle.node.specs.Stored.{matrixIn}
+use Rattle.node.proofs.Parts.{row-low, row-columns}
+use Rattle.node.specs.View.{view}
+use Rattle.node.proofs.Passes.{passing-row, passing-closed, passing-end}
+use Rattle.candidates.proofs.Best.{Choosing, choosing-start, choosing-open, choosing-zero}
 use Rattle.candidates.proofs.best_candidate.Statement.{statement}
 use Rattle.candidates.proofs.best_candidate.Tie as tie
 
 abbrev Inv-loop : tie.InvT-loop
-Inv-loop cost column row rows starts heads entries best₀ i₀ best i = Choosing cost column row rows starts heads entries best i
+Inv-loop cost column row matrix rows best₀ i₀ best i = Choosing matrix (view cost column row) rows best i
 
 abbrev μ-loop : tie.MeasureT-loop
-μ-loop cost column row rows starts heads entries best₀ i₀ best i = rows - i
+μ-loop cost column row matrix rows best₀ i₀ best i = rows - i
+
+row-count-requires : tie.Need-row-count-requires Inv-loop μ-loop
+row-count-requires c κs = search needs
 
 loop-holds : tie.Need-loop-holds Inv-loop μ-loop
-loop-holds c = choosing-start _ _ _ _ _ _ _ (c .before .pre)
+loop-holds c = choosing-start _ _ _ (c .before .before .pre) (c .row-count .ensures)
 
 add-i : tie.Need-add-i Inv-loop μ-loop
 add-i c = omega arith
 
 element-copy-out-if1 : tie.Need-element-copy-out-if1 Inv-loop μ-loop
-element-copy-out-if1 c = choosing-low _ _ _ _ _ _ _ _ _ (c .before .loop .inv) (c .loop-test .taken)
+element-copy-out-if1 c = row-low _ _ (passing-row (c .before .loop .inv) (c .loop-test .taken))
 
 row-part-requires : tie.Need-row-part-requires Inv-loop μ-loop
-row-part-requires c κs =
-    let k = c .before .before .before .loop .inv .some in
-    record { p = k .p; starts = _; kept = k .kept; row = omega (arith, c .before .before .loop-test .taken, k .rows-is) }
+row-part-requires c κs = passing-row (c .before .before .before .loop .inv) (c .before .before .loop-test .taken)
 
 has-zero-requires : tie.Need-has-zero-requires Inv-loop μ-loop
-has-zero-requires c κs = search needs
+has-zero-requires c κs = row-columns (matrixIn _) (c .before .before .before .before .loop .inv .kept .small) _ _ (c .row-part .ensures)
 
 row-candidate-requires : tie.Need-row-candidate-requires Inv-loop μ-loop
 row-candidate-requires c κs =
     let l = c .before .before .before .before .before in
-    let k = l .before .loop .inv .some in
-    record { p = k .p; kept = k .kept; row = omega (arith, l .loop-test .taken, k .rows-is) }
+    passing-row (l .before .loop .inv) (l .loop-test .taken)
 
 better-of-requires : tie.Need-better-of-requires Inv-loop μ-loop
 better-of-requires c κs = search needs
@@ -47,7 +51,7 @@ loop-again : tie.Need-loop-again Inv-loop μ-loop
 loop-again c =
     let f = c .before .before .before .before .before in
     let l = f .before .before in
-    choosing-open _ _ _ _ _ _ _ _ _ (l .before .loop .inv) (l .loop-test .taken) (f .if1 .taken) _ _ (c .before .row-candidate .ensures) (c .better-of .ensures)
+    choosing-open _ _ _ _ _ _ _ (l .before .loop .inv) (l .loop-test .taken) (f .if1 .taken) _ _ (c .before .row-candidate .ensures) (c .better-of .ensures)
 
 loop-less-2 : tie.Need-loop-less-2 Inv-loop μ-loop
 loop-less-2 c = omega (arith, c .before .before .before .before .before .loop-test .taken)
@@ -57,7 +61,7 @@ loop-again-2 c =
     let f = c .before .before .before in
     let l = f .before .before in
     let z = sym (not-false _ (c .if2 .left)) ∙ c .before .has-zero .ensures in
-    choosing-zero _ _ _ _ _ _ _ _ _ (l .before .loop .inv) (l .loop-test .taken) (f .if1 .taken) _ (c .before .before .row-part .ensures) z
+    choosing-zero _ _ _ _ _ _ _ (l .before .loop .inv) (l .loop-test .taken) (f .if1 .taken) _ (c .before .before .row-part .ensures) z
 
 loop-less-3 : tie.Need-loop-less-3 Inv-loop μ-loop
 loop-less-3 c = omega (arith, c .before .before .loop-test .taken)
@@ -65,10 +69,10 @@ loop-less-3 c = omega (arith, c .before .before .loop-test .taken)
 loop-again-3 : tie.Need-loop-again-3 Inv-loop μ-loop
 loop-again-3 c =
     let l = c .before .before in
-    choosing-closed _ _ _ _ _ _ _ _ _ (l .before .loop .inv) (l .loop-test .taken) (c .if1 .left)
+    passing-closed (l .before .loop .inv) (l .loop-test .taken) (c .if1 .left)
 
 returns : tie.Need-returns Inv-loop μ-loop
-returns c = choosing-end _ _ _ _ _ _ _ _ _ (c .before .loop .inv) (c .loop-test .left)
+returns c = passing-end (c .before .loop .inv) (c .loop-test .left)
 
 pub best-candidate-spec : {M : Type 1} → statement M
 best-candidate-spec =
@@ -76,6 +80,7 @@ best-candidate-spec =
     (tie.spec
     Inv-loop
     μ-loop
+    row-count-requires
     loop-holds
     add-i
     element-copy-out-if1

@@ -3,7 +3,6 @@ use native.Mathlib.Omega.{arith}
 use borrow.Author.Needs.{needs}
 use borrow.Author.Tests.{eq-eqb, ne-eqb}
 use Rattle.choice.specs.Row.{joined}
-use borrow.Author.Needs.{needs}
 use Rattle.choice.proofs.join.Statement.{statement}
 use Rattle.choice.proofs.join.Tie as tie
 

@@ -15,6 +15,9 @@ abbrev μ-loop : tie.MeasureT-loop
 loop-holds : tie.Need-loop-holds Inv-loop μ-loop
 loop-holds c = tallying-start _ _ _ _
 
+mul-j : tie.Need-mul-j Inv-loop μ-loop
+mul-j c = omega arith
+
 shared-slice-read-j : tie.Need-shared-slice-read-j Inv-loop μ-loop
 shared-slice-read-j c = omega arith
 
@@ -25,22 +28,22 @@ add-k : tie.Need-add-k Inv-loop μ-loop
 add-k c = omega arith
 
 element-copy-out-if1 : tie.Need-element-copy-out-if1 Inv-loop μ-loop
-element-copy-out-if1 c = omega (arith, c .shared-slice-known2 .given (c .before .before .loop .k))
+element-copy-out-if1 c = c .before .before .before .before .pre .0 _ (c .before .loop-test .taken)
 
 mul-join : tie.Need-mul-join Inv-loop μ-loop
 mul-join c =
     let d = c .before .before in
-    omega (arith, d .shared-slice-known2 .given (d .before .before .loop .k))
+    omega (arith, d .before .before .before .before .pre .0 _ (d .before .loop-test .taken))
 
 element-copy-out-join : tie.Need-element-copy-out-join Inv-loop μ-loop
 element-copy-out-join c =
     let d = c .before .before in
-    omega (arith, d .shared-slice-known2 .given (d .before .before .loop .k))
+    d .before .before .before .before .pre .0 _ (d .before .loop-test .taken)
 
 join-requires : tie.Need-join-requires Inv-loop μ-loop
 join-requires c κs =
     let l = c .before .before .before .before in
-    tallying-few _ _ _ _ _ _ (l .before .loop .inv) (l .loop-test .taken) (l .before .before .before .pre)
+    tallying-few _ _ _ _ _ _ (l .before .loop .inv) (l .loop-test .taken) (l .before .before .before .pre .1)
 
 loop-less : tie.Need-loop-less Inv-loop μ-loop
 loop-less c = omega (arith, c .before .before .before .before .before .loop-test .taken)
@@ -68,6 +71,7 @@ statistics-spec =
     Inv-loop
     μ-loop
     loop-holds
+    mul-j
     shared-slice-read-j
     cast-j
     add-k

@@ -16,7 +16,10 @@ abbrev μ-loop : tie.MeasureT-loop
 μ-loop cost column row seen₀ count₀ k₀ seen count k = length row - k
 
 loop-holds : tie.Need-loop-holds Inv-loop μ-loop
-loop-holds c = marking-start _ _ _ (c .before .pre .0) (c .before .pre .1)
+loop-holds c = marking-start _ _ _ (c .before .pre .1) (c .before .pre .2)
+
+mul-j : tie.Need-mul-j Inv-loop μ-loop
+mul-j c = omega arith
 
 shared-slice-read-j : tie.Need-shared-slice-read-j Inv-loop μ-loop
 shared-slice-read-j c = omega arith
@@ -28,13 +31,13 @@ add-k : tie.Need-add-k Inv-loop μ-loop
 add-k c = omega arith
 
 element-copy-out-is-zero : tie.Need-element-copy-out-is-zero Inv-loop μ-loop
-element-copy-out-is-zero c = omega (arith, c .shared-slice-known2 .given (c .before .before .loop .k))
+element-copy-out-is-zero c = c .before .before .before .before .pre .0 _ (c .before .loop-test .taken)
 
 mul-is-zero : tie.Need-mul-is-zero Inv-loop μ-loop
-mul-is-zero c = let d = c .before in omega (arith, d .shared-slice-known2 .given (d .before .before .loop .k))
+mul-is-zero c = let d = c .before in omega (arith, d .before .before .before .before .pre .0 _ (d .before .loop-test .taken))
 
 element-copy-out-is-zero-2 : tie.Need-element-copy-out-is-zero-2 Inv-loop μ-loop
-element-copy-out-is-zero-2 c = let d = c .before in omega (arith, d .shared-slice-known2 .given (d .before .before .loop .k))
+element-copy-out-is-zero-2 c = let d = c .before in d .before .before .before .before .pre .0 _ (d .before .loop-test .taken)
 
 is-zero-requires : tie.Need-is-zero-requires Inv-loop μ-loop
 is-zero-requires c κs = search needs
@@ -42,12 +45,12 @@ is-zero-requires c κs = search needs
 element-copy-out-if2 : tie.Need-element-copy-out-if2 Inv-loop μ-loop
 element-copy-out-if2 c =
     let d = c .before .before .before .before in
-    omega (arith, d .shared-slice-known2 .given (d .before .before .loop .k))
+    d .before .before .before .before .pre .0 _ (d .before .loop-test .taken)
 
 element-write-seen : tie.Need-element-write-seen Inv-loop μ-loop
 element-write-seen c =
     let d = c .before .before .before .before .before .before in
-    omega (arith, d .shared-slice-known2 .given (d .before .before .loop .k))
+    d .before .before .before .before .pre .0 _ (d .before .loop-test .taken)
 
 add-count : tie.Need-add-count Inv-loop μ-loop
 add-count c =
@@ -63,7 +66,7 @@ loop-again c =
     let l = d .before in
     let z = c .before .before in
     marking-new _ _ _ _ _ _ (l .before .loop .inv) (l .loop-test .taken) (sym (z .before .is-zero .ensures) ∙ z .if1 .taken) (c .if2 .taken)
-    (omega (arith, d .shared-slice-known2 .given (l .before .loop .k)))
+    (l .before .before .before .pre .0 _ (l .loop-test .taken))
 
 loop-less-2 : tie.Need-loop-less-2 Inv-loop μ-loop
 loop-less-2 c = omega (arith, c .before .before .before .before .before .before .before .loop-test .taken)
@@ -91,6 +94,7 @@ mark-row-spec =
     Inv-loop
     μ-loop
     loop-holds
+    mul-j
     shared-slice-read-j
     cast-j
     add-k

@@ -15,6 +15,9 @@ abbrev μ-loop : tie.MeasureT-loop
 loop-holds : tie.Need-loop-holds Inv-loop μ-loop
 loop-holds c = lowering-start _ _ _ _
 
+mul-j : tie.Need-mul-j Inv-loop μ-loop
+mul-j c = omega arith
+
 shared-slice-read-j : tie.Need-shared-slice-read-j Inv-loop μ-loop
 shared-slice-read-j c = omega arith
 
@@ -25,17 +28,13 @@ add-k : tie.Need-add-k Inv-loop μ-loop
 add-k c = omega arith
 
 element-copy-out-if1 : tie.Need-element-copy-out-if1 Inv-loop μ-loop
-element-copy-out-if1 c = omega (arith, c .shared-slice-known .given (c .before .before .loop .k))
+element-copy-out-if1 c = c .before .before .before .pre .2 _ (c .before .loop-test .taken)
 
 mul-cost : tie.Need-mul-cost Inv-loop μ-loop
-mul-cost c =
-    let d = c .before .before in
-    omega (arith, d .shared-slice-known .given (d .before .before .loop .k))
+mul-cost c = let l = c .before .before .before in omega (arith, l .before .before .pre .2 _ (l .loop-test .taken))
 
 element-copy-out-cost : tie.Need-element-copy-out-cost Inv-loop μ-loop
-element-copy-out-cost c =
-    let d = c .before .before in
-    omega (arith, d .shared-slice-known .given (d .before .before .loop .k))
+element-copy-out-cost c = let l = c .before .before .before in l .before .before .pre .2 _ (l .loop-test .taken)
 
 sub-cost : tie.Need-sub-cost Inv-loop μ-loop
 sub-cost c =
@@ -43,14 +42,10 @@ sub-cost c =
     lowering-covers _ _ _ _ _ _ (l .before .loop .inv) (l .loop-test .taken) (l .before .before .pre .0) (c .before .if1 .taken)
 
 mul-cost-2 : tie.Need-mul-cost-2 Inv-loop μ-loop
-mul-cost-2 c =
-    let d = c .before .before .before in
-    omega (arith, d .shared-slice-known .given (d .before .before .loop .k))
+mul-cost-2 c = let l = c .before .before .before .before in omega (arith, l .before .before .pre .2 _ (l .loop-test .taken))
 
 element-write-cost : tie.Need-element-write-cost Inv-loop μ-loop
-element-write-cost c =
-    let d = c .before .before .before in
-    omega (arith, d .shared-slice-known .given (d .before .before .loop .k))
+element-write-cost c = let l = c .before .before .before .before in l .before .before .pre .2 _ (l .loop-test .taken)
 
 loop-less : tie.Need-loop-less Inv-loop μ-loop
 loop-less c = omega arith
@@ -78,6 +73,7 @@ lower-costs-spec =
     Inv-loop
     μ-loop
     loop-holds
+    mul-j
     shared-slice-read-j
     cast-j
     add-k

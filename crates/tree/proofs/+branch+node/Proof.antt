@@ -6,9 +6,10 @@ use native.Mathlib.Omega.{arith}
 use borrow.Fn.Kinds.{In}
 use borrow.Fn.PlainCycle.{Measures, is, falls, and}
 use borrow.Author.Tests.{not-true, not-false}
-use Rattle.forcing.proofs.Forcing.{frees}
-use Rattle.tree.proofs.Walking.{entered-sum, halted-sum, offered-sum, node-halts, node-ends, node-offers, node-reached, node-branches, can-branch}
-use Rattle.tree.proofs.Walking.{settled-fewer, can-choose, column-low, can-take, first-falls, first-walks, branch-stops}
+use Rattle.node.specs.Stored.{matrixIn}
+use Rattle.rules.proofs.Rows.{size}
+use Rattle.tree.proofs.Walking.{entered-sum, halted-sum, offered-sum, node-halts, node-ends, node-offers, node-reached, node-branches}
+use Rattle.tree.proofs.Walking.{comes, can-branch, column-low, can-take, first-falls, first-walks, branch-stops}
 use Rattle.tree.proofs.Walking.{branch-reached, branch-goes, second-falls, second-walks}
 use Rattle.tree.proofs.branch.Reads as branch
 use Rattle.tree.proofs.branch.Kinds as branch-kinds
@@ -27,23 +28,23 @@ use Rattle.tree.proofs.settle_node.Reads as settle-reads
 use Rattle.tree.proofs.+branch+node.{statement}
 use Rattle.tree.proofs.+branch+node.Tie.{close}
 
-abbrev μ-branch : Measures 4 branch-kinds.ps ℕ
-μ-branch κs a = 2 * frees (a .0)
+abbrev μ-branch : Measures 1 branch-kinds.ps ℕ
+μ-branch κs a = 2 * size (matrixIn (a .1 .1 .0 .now)) (a .0)
 
-abbrev μ-node : Measures 4 node-kinds.ps ℕ
-μ-node κs a = 2 * frees (a .0) + 1
+abbrev μ-node : Measures 1 node-kinds.ps ℕ
+μ-node κs a = 2 * size (matrixIn (a .1 .1 .0 .now)) (a .0) + 1
 
-abbrev branch-at : ℕ → In 4 branch-kinds.ps
-branch-at t = and 4 branch-kinds.ps (is 4 branch-kinds.ps μ-branch t) branch.Pre
+abbrev branch-at : ℕ → In 1 branch-kinds.ps
+branch-at t = and 1 branch-kinds.ps (is 1 branch-kinds.ps μ-branch t) branch.Pre
 
-abbrev branch-below : ℕ → In 4 branch-kinds.ps
-branch-below t = and 4 branch-kinds.ps (falls 4 branch-kinds.ps _<_ μ-branch t) branch.Pre
+abbrev branch-below : ℕ → In 1 branch-kinds.ps
+branch-below t = and 1 branch-kinds.ps (falls 1 branch-kinds.ps _<_ μ-branch t) branch.Pre
 
-abbrev node-at : ℕ → In 4 node-kinds.ps
-node-at t = and 4 node-kinds.ps (is 4 node-kinds.ps μ-node t) node.Pre
+abbrev node-at : ℕ → In 1 node-kinds.ps
+node-at t = and 1 node-kinds.ps (is 1 node-kinds.ps μ-node t) node.Pre
 
-abbrev node-below : ℕ → In 4 node-kinds.ps
-node-below t = and 4 node-kinds.ps (falls 4 node-kinds.ps _<_ μ-node t) node.Pre
+abbrev node-below : ℕ → In 1 node-kinds.ps
+node-below t = and 1 node-kinds.ps (falls 1 node-kinds.ps _<_ μ-node t) node.Pre
 
 -- what each is handed of what it calls: of the other one below t, of the rest as it stands
 abbrev branch-claims : ℕ → branch-lts.Claims
@@ -77,28 +78,25 @@ node-claims t = (
 )
 
 branch-choose-requires : (t : ℕ) → branch-lts.Need-choose-requires (branch-claims t) (branch-at t) branch.Post
-branch-choose-requires t c κs =
-    can-choose _ _ _ _ _ _ _ (c .before .before .before .before .before .before .pre .1)
+branch-choose-requires t c κs = c .before .before .before .before .before .pre .1 .node
 
 branch-take-requires : (t : ℕ) → branch-lts.Need-take-requires (branch-claims t) (branch-at t) branch.Post
-branch-take-requires t c κs =
-    can-take _ _ _ _ _ _ _ _ (c .choose .ensures) (c .before .before .before .before .before .before .before .pre .1)
+branch-take-requires t c κs = can-take _ _ _ (c .before .before .before .before .before .before .pre .1) _ (c .choose .ensures)
 
 branch-node-requires : (t : ℕ) → branch-lts.Need-node-requires (branch-claims t) (branch-at t) branch.Post
 branch-node-requires t c κs =
-    let a = c .before .before .before .before .before .before .before .before in
-    let w = a .pre in
-    let d = c .before .choose .ensures in
-    let l = first-falls _ _ _ _ _ (a .args .t1) (a .args .t) _ d _ (c .take .ensures) (w .1) in
-    (omega (arith, l, w .0), first-walks _ _ _ _ _ (a .args .t1) (a .args .t) _ d _ (c .take .ensures) (w .1))
+    let d = c .before in
+    let w = d .before .before .before .before .before .before .pre in
+    let l = first-falls _ _ _ (w .1) _ (d .choose .ensures) _ (c .take .ensures) in
+    (omega (arith, l, w .0), first-walks _ _ _ (w .1) _ (d .choose .ensures) _ (c .take .ensures))
 
 branch-returns : (t : ℕ) → branch-lts.Need-returns (branch-claims t) (branch-at t) branch.Post
 branch-returns t c =
     let u = c .before in
     let k = u .before in
     let d = k .before in
-    let a = d .before .before .before .before .before .before .before .args in (
-      branch-stops _ _ _ _ _ (a .t1) (a .t) _ (d .choose .ensures) _ (k .take .ensures) (u .node .result) (u .node .ensures .0) (c .if1 .taken),
+    let w = d .before .before .before .before .before .before .pre .1 in (
+      branch-stops _ _ _ w _ (d .choose .ensures) _ (k .take .ensures) (u .node .result) (u .node .ensures .0) (c .if1 .taken),
       u .node .ensures .1,
     )
 
@@ -111,26 +109,24 @@ branch-returns-2 t c =
     let u = f .before in
     let k = u .before in
     let d = k .before in
-    let a = d .before .before .before .before .before .before .before .args in (
-      branch-reached _ _ _ _ _ (a .t1) (a .t) _ (d .choose .ensures) _ (k .take .ensures) (u .node .result) (u .node .ensures .0) (f .if1 .left)
-          _ (c .before .is-reached .ensures) (c .if2 .taken),
+    let w = d .before .before .before .before .before .before .pre .1 in (
+      branch-reached _ _ _ w _ (d .choose .ensures) _ (k .take .ensures) (u .node .result) (u .node .ensures .0) (f .if1 .left) _ (c .before .is-reached .ensures)
+          (c .if2 .taken),
       u .node .ensures .1,
     )
 
 branch-leave-requires : (t : ℕ) → branch-lts.Need-leave-requires (branch-claims t) (branch-at t) branch.Post
 branch-leave-requires t c κs =
     let d = c .before .before .before .before .before in
-    column-low _ _ _ _ _ _ _ _ (d .choose .ensures) (d .before .before .before .before .before .before .before .pre .1)
+    column-low _ _ _ (d .before .before .before .before .before .before .pre .1) _ (d .choose .ensures)
 
 branch-node-requires-2 : (t : ℕ) → branch-lts.Need-node-requires-2 (branch-claims t) (branch-at t) branch.Post
 branch-node-requires-2 t c κs =
     let u = c .before .before .before .before in
-    let k = u .before .before in
-    let a = k .before .before .before .before .before .before .before in
-    let w = a .pre in
-    let d = k .choose .ensures in
-    let l = second-falls _ _ _ _ _ (a .args .t1) (a .args .t) _ d _ (c .leave .ensures) (w .1) in
-    (omega (arith, l, w .0), second-walks _ _ _ _ _ (a .args .t1) (a .args .t) _ d _ (c .leave .ensures) (w .1) _ (u .node .ensures .1))
+    let d = u .before .before in
+    let w = d .before .before .before .before .before .before .pre in
+    let l = second-falls _ _ _ (w .1) _ (d .choose .ensures) _ (c .leave .ensures) in
+    (omega (arith, l, w .0), second-walks _ _ _ (w .1) _ (d .choose .ensures) _ (c .leave .ensures) _ (u .node .ensures .1))
 
 branch-returns-3 : (t : ℕ) → branch-lts.Need-returns-3 (branch-claims t) (branch-at t) branch.Post
 branch-returns-3 t c =
@@ -139,9 +135,9 @@ branch-returns-3 t c =
     let u = f .before in
     let k = u .before in
     let d = k .before in
-    let a = d .before .before .before .before .before .before .before .args in (
-      branch-goes _ _ _ _ _ (a .t1) (a .t) _ (d .choose .ensures) _ (k .take .ensures) (u .node .result) (u .node .ensures .0) (f .if1 .left) _
-          (g .before .is-reached .ensures) (g .if2 .left) _ (c .before .leave .ensures) (c .node2 .result) (c .node2 .ensures .0),
+    let w = d .before .before .before .before .before .before .pre .1 in (
+      branch-goes _ _ _ w _ (d .choose .ensures) _ (k .take .ensures) (u .node .result) (u .node .ensures .0) (f .if1 .left) _ (g .before .is-reached .ensures)
+          (g .if2 .left) _ (c .before .leave .ensures) (c .node2 .result) (c .node2 .ensures .0),
       c .node2 .ensures .1 ∙ u .node .ensures .1,
     )
 
@@ -150,26 +146,26 @@ node-halt-requires t c κs = tt
 
 node-returns : (t : ℕ) → node-lts.Need-returns (node-claims t) (node-at t) node.Post
 node-returns t c =
-    let v = c .before .before .before .before .before .args .t in
-    (node-halts _ _ _ _ _ _ v (c .before .if1 .taken) (c .halt .result) (c .halt .ensures), halted-sum v (c .halt .result) (c .halt .ensures))
+    let v = c .before .before .before .before .args .t in
+    (node-halts _ _ _ v (c .before .if1 .taken) (c .halt .result) (c .halt .ensures), halted-sum v (c .halt .result) (c .halt .ensures))
 
 node-enter-requires : (t : ℕ) → node-lts.Need-enter-requires (node-claims t) (node-at t) node.Post
 node-enter-requires t c κs =
-    let w = c .before .before .before .before .pre .1 in
+    let w = c .before .before .before .pre .1 in
     (omega (arith, c .if1 .left), omega (arith, w .count))
 
 node-settle-node-requires : (t : ℕ) → node-lts.Need-settle-node-requires (node-claims t) (node-at t) node.Post
-node-settle-node-requires t c κs = c .before .before .before .before .before .pre .1 .some
+node-settle-node-requires t c κs = c .before .before .before .before .pre .1 .some
 
 node-returns-2 : (t : ℕ) → node-lts.Need-returns-2 (node-claims t) (node-at t) node.Post
 node-returns-2 t c =
     let n = c .before .before in
     let m = n .before in
     let z = m .before .if1 .left in
-    let v = m .before .before .before .before .before .args .t in
+    let a = m .before .before .before .before in
     let e = m .enter .result in
     let u = m .enter .ensures in
-    (node-ends _ _ _ _ _ _ v z e u _ (n .settle-node .ensures) (not-true _ (c .if2 .taken)), entered-sum v e z u)
+    (node-ends _ _ _ (a .args .t) z e u _ (comes _ _ _ (a .pre .1) _ (n .settle-node .ensures)) (not-true _ (c .if2 .taken)), entered-sum (a .args .t) e z u)
 
 node-offer-requires : (t : ℕ) → node-lts.Need-offer-requires (node-claims t) (node-at t) node.Post
 node-offer-requires t c κs = tt
@@ -181,11 +177,12 @@ node-returns-3 t c =
     let n = g .before .before in
     let m = n .before in
     let z = m .before .if1 .left in
-    let v = m .before .before .before .before .before .args .t in
+    let a = m .before .before .before .before in
     let e = m .enter .result in
     let u = m .enter .ensures in (
-      node-offers _ _ _ _ _ _ v z e u _ (n .settle-node .ensures) (not-false _ (g .if2 .left)) (f .if3 .taken) (c .offer .result) (c .offer .ensures),
-      offered-sum e (c .offer .result) _ _ (c .offer .ensures) ∙ entered-sum v e z u,
+      node-offers _ _ _ (a .args .t) z e u _ (comes _ _ _ (a .pre .1) _ (n .settle-node .ensures)) (not-false _ (g .if2 .left)) (f .if3 .taken)
+          (c .offer .result) (c .offer .ensures),
+      offered-sum e (c .offer .result) _ (n .settle-node .result .node .column) (c .offer .ensures) ∙ entered-sum (a .args .t) e z u,
     )
 
 node-is-reached-requires : (t : ℕ) → node-lts.Need-is-reached-requires (node-claims t) (node-at t) node.Post
@@ -198,11 +195,12 @@ node-returns-4 t c =
     let n = g .before .before in
     let m = n .before in
     let z = m .before .if1 .left in
-    let v = m .before .before .before .before .before .args .t in
+    let a = m .before .before .before .before in
     let e = m .enter .result in
     let u = m .enter .ensures in (
-      node-reached _ _ _ _ _ _ v z e u _ (n .settle-node .ensures) (not-false _ (g .if2 .left)) (f .if3 .left) _ (c .before .is-reached .ensures) (c .if4 .taken),
-      entered-sum v e z u,
+      node-reached _ _ _ (a .args .t) z e u _ (comes _ _ _ (a .pre .1) _ (n .settle-node .ensures)) (not-false _ (g .if2 .left)) (f .if3 .left) _
+          (c .before .is-reached .ensures) (c .if4 .taken),
+      entered-sum (a .args .t) e z u,
     )
 
 node-branch-requires : (t : ℕ) → node-lts.Need-branch-requires (node-claims t) (node-at t) node.Post
@@ -212,13 +210,12 @@ node-branch-requires t c κs =
     let n = g .before .before in
     let m = n .before in
     let z = m .before .if1 .left in
-    let v = m .before .before .before .before .before .args .t in
+    let a = m .before .before .before .before in
     let e = m .enter .result in
-    let u = m .enter .ensures in
-    let w = m .before .before .before .before .before .pre in
+    let q = entered-sum (a .args .t) e z (m .enter .ensures) in
     let x = n .settle-node .ensures in
-    let l = settled-fewer _ _ _ _ _ _ v z e u _ x (w .1) in
-    (omega (arith, l, w .0), can-branch _ _ _ _ _ _ v z e u _ x (not-false _ (g .if2 .left)) (f .if3 .left) (w .1))
+    let l = comes _ _ _ (a .pre .1) _ x .less in
+    (omega (arith, l, a .pre .0), can-branch _ _ _ (a .pre .1) _ x e q (not-false _ (g .if2 .left)) (f .if3 .left))
 
 node-returns-5 : (t : ℕ) → node-lts.Need-returns-5 (node-claims t) (node-at t) node.Post
 node-returns-5 t c =
@@ -227,12 +224,12 @@ node-returns-5 t c =
     let n = g .before .before in
     let m = n .before in
     let z = m .before .if1 .left in
-    let v = m .before .before .before .before .before .args .t in
+    let a = m .before .before .before .before in
     let e = m .enter .result in
     let u = m .enter .ensures in (
-      node-branches _ _ _ _ _ _ v z e u _ (n .settle-node .ensures) (not-false _ (g .if2 .left)) (f .if3 .left) _
+      node-branches _ _ _ (a .args .t) z e u _ (comes _ _ _ (a .pre .1) _ (n .settle-node .ensures)) (not-false _ (g .if2 .left)) (f .if3 .left) _
           (c .before .before .is-reached .ensures) (c .before .if4 .left) (c .branch .result) (c .branch .ensures .0),
-      c .branch .ensures .1 ∙ entered-sum v e z u,
+      c .branch .ensures .1 ∙ entered-sum (a .args .t) e z u,
     )
 
 pub +branch+node-spec : {M : Type 1} → statement M

@@ -1,31 +1,27 @@
 -- The row and the column found are those that the rules pick.
-use Rattle.tree.proofs.Choosing.{choice-both, choice-room, choice-made}
+use Rattle.tree.proofs.Choosing.{choice-row, choice-room, choice-made}
 use borrow.Author.Needs.{needs}
 use Rattle.tree.proofs.choose.Statement.{statement}
 use Rattle.tree.proofs.choose.Tie as tie
 
 branch-row-requires : tie.Need-branch-row-requires
-branch-row-requires c κs = search needs
+branch-row-requires c κs = c .before .pre .some .kept
 
 cast-i : tie.Need-cast-i
 cast-i c = search needs
 
 branch-column-requires : tie.Need-branch-column-requires
-branch-column-requires c κs =
-    choice-both _ _ _ _ _ _ _ (c .before .branch-row .ensures) (c .before .before .before .before .pre)
-
-cast-t13 : tie.Need-cast-t13
-cast-t13 c = search needs
+branch-column-requires c κs = choice-row _ _ (c .before .before .before .pre) _ (c .before .branch-row .ensures)
 
 without-bound-requires : tie.Need-without-bound-requires
 without-bound-requires c κs =
-    let a = c .before .before .before in
-    choice-room _ _ _ _ _ _ _ (a .branch-row .ensures) (a .before .before .before .pre)
+    let a = c .before .before in
+    choice-room _ _ (a .before .before .pre) _ (a .branch-row .ensures)
 
 returns : tie.Need-returns
 returns c =
-    let b = c .before .before in
-    choice-made _ _ _ _ _ _ _ (b .before .before .branch-row .ensures) _ (b .branch-column .ensures) _ (c .without-bound .ensures)
+    let a = c .before .before .before in
+    choice-made _ _ (a .before .before .pre .splits) _ (a .branch-row .ensures) _ (c .before .branch-column .ensures) _ (c .without-bound .ensures)
 
 pub choose-spec : {M : Type 1} → statement M
 choose-spec =
@@ -34,6 +30,5 @@ choose-spec =
     branch-row-requires
     cast-i
     branch-column-requires
-    cast-t13
     without-bound-requires
     returns)

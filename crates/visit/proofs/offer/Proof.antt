@@ -2,7 +2,6 @@
 use mathlib.Core.Path.{ap, sym, _∙_}
 use Rattle.rules.specs.Search.{Incumbent}
 use Rattle.rules.specs.Limited.{Tally}
-use Rattle.node.specs.Node.{taken}
 use Rattle.visit.proofs.Offers.{stays, yields}
 use borrow.Author.Needs.{needs}
 use Rattle.visit.proofs.offer.Statement.{statement}
@@ -12,8 +11,7 @@ is-reached-requires : tie.Need-is-reached-requires
 is-reached-requires c κs = search needs
 
 returns : tie.Need-returns
-unfolding taken
-returns c = λ p.
+returns c = λ w.
     let t = c .before .before .args .t in
     ap {B = Tally} (λ (k : Incumbent). record { nodes = t .nodes; left = t .left; stopped = t .stopped; kept = k })
     (stays _ _ _ _ _ (sym (c .before .is-reached .ensures) ∙ c .if1 .taken))
@@ -22,8 +20,7 @@ keep-requires : tie.Need-keep-requires
 keep-requires c κs = search needs
 
 returns-2 : tie.Need-returns-2
-unfolding taken
-returns-2 c = λ p.
+returns-2 c = λ w.
     let t = c .before .before .before .args .t in
     rw (c .keep .ensures) (ap {B = Tally} (λ (k : Incumbent). record { nodes = t .nodes; left = t .left; stopped = t .stopped; kept = k })
     (yields _ _ _ _ _ (sym (c .before .before .is-reached .ensures) ∙ c .before .if1 .left)))

@@ -1,36 +1,36 @@
 -- A dead node and a plan are as forcing leaves them; else the forced node is reduced.
 use borrow.Author.Tests.{not-true, not-false}
-use Rattle.visit.proofs.Settling.{can-force, can-reduce, settle-dead, settle-full, settle-open}
+use Rattle.visit.proofs.Settling.{forced-workable, settle-dead, settle-full, settle-open}
 use borrow.Author.Needs.{needs}
 use Rattle.visit.proofs.settle.Statement.{statement}
 use Rattle.visit.proofs.settle.Tie as tie
 
 force-requires : tie.Need-force-requires
-force-requires c κs = can-force _ _ _ _ _ _ (c .before .before .pre)
+force-requires c κs = search needs
 
 returns : tie.Need-returns
-returns c = λ p k. settle-dead _ _ _ _ _ _ _ (c .before .before .before .force .ensures) p k (not-true _ (c .if1 .taken))
+returns c = settle-dead _ _ _ _ (c .before .before .before .force .ensures) (not-true _ (c .if1 .taken))
 
 is-full-requires : tie.Need-is-full-requires
-is-full-requires c κs = search needs
+is-full-requires c κs = c .before .before .before .before .before .before .before .pre .kept
 
 returns-2 : tie.Need-returns-2
-returns-2 c = λ p k.
+returns-2 c =
     let a = c .before .before .before .before in
-    settle-full _ _ _ _ _ _ _ (a .before .before .before .force .ensures) p k (not-false _ (a .if1 .left)) _ (c .before .is-full .ensures)
+    settle-full _ _ _ _ (a .before .before .before .force .ensures) (not-false _ (a .if1 .left)) _ (c .before .is-full .ensures)
     (c .if2 .taken)
 
 reduce-node-requires : tie.Need-reduce-node-requires
 reduce-node-requires c κs =
     let a = c .before .before .before .before .before .before .before in
-    can-reduce _ _ _ _ _ _ _ (a .force .ensures) (a .before .before .before .pre)
+    forced-workable _ _ (a .before .before .pre) _ (a .force .ensures)
 
 returns-3 : tie.Need-returns-3
-returns-3 c = λ p k.
+returns-3 c =
     let b = c .before .before in
     let a = b .before .before .before .before in
-    settle-open _ _ _ _ _ _ _ (a .before .before .before .force .ensures) p k (not-false _ (a .if1 .left)) _ (b .before .is-full .ensures)
-    (b .if2 .left) _ (c .before .reduce-node .ensures)
+    settle-open _ _ _ _ (a .before .before .before .force .ensures) (not-false _ (a .if1 .left)) _ (b .before .is-full .ensures)
+    (b .if2 .left) _ (c .before .reduce-node .ensures .node-is)
 
 pub settle-spec : {M : Type 1} → statement M
 settle-spec =

@@ -2,14 +2,14 @@
 use Prim.Native.Nat.{_-_}
 use native.Mathlib.Omega.{arith}
 use Rattle.matrix.proofs.Collected.{Collecting, collecting-start, collecting-room, collecting-found, collecting-other, collecting-end}
-use Rattle.matrix.proofs.collect_row.Statement.{statement}
-use Rattle.matrix.proofs.collect_row.Tie as tie
+use Rattle.matrix.proofs.put_row.Statement.{statement}
+use Rattle.matrix.proofs.put_row.Tie as tie
 
 abbrev Inv-loop : tie.InvT-loop
-Inv-loop cover columns row entries₀ at end₀ j₀ entries end j = Collecting cover columns row entries₀ at entries end j
+Inv-loop matrix₀ at cover columns row end₀ j₀ matrix end j = Collecting cover columns row matrix₀ at matrix end j
 
 abbrev μ-loop : tie.MeasureT-loop
-μ-loop cover columns row entries₀ at end₀ j₀ entries end j = columns - j
+μ-loop matrix₀ at cover columns row end₀ j₀ matrix end j = columns - j
 
 loop-holds : tie.Need-loop-holds Inv-loop μ-loop
 loop-holds c = collecting-start _ _ _ _ _ (c .pre)
@@ -26,11 +26,16 @@ add-if1 c = omega arith
 element-copy-out-if1 : tie.Need-element-copy-out-if1 Inv-loop μ-loop
 element-copy-out-if1 c = omega arith
 
-cast-entries : tie.Need-cast-entries Inv-loop μ-loop
-cast-entries c = omega arith
+cast-matrix : tie.Need-cast-matrix Inv-loop μ-loop
+cast-matrix c = omega arith
 
-element-write-entries : tie.Need-element-write-entries Inv-loop μ-loop
-element-write-entries c =
+mul-matrix : tie.Need-mul-matrix Inv-loop μ-loop
+mul-matrix c =
+    let l = c .before .before .before in
+    omega (arith, collecting-room _ _ _ _ _ _ _ _ (l .loop .inv) (c .before .before .loop-test .taken) (c .if1 .taken))
+
+element-write-matrix : tie.Need-element-write-matrix Inv-loop μ-loop
+element-write-matrix c =
     let l = c .before .before .before in
     collecting-room _ _ _ _ _ _ _ _ (l .loop .inv) (c .before .before .loop-test .taken) (c .if1 .taken)
 
@@ -58,8 +63,8 @@ loop-again-2 c =
 returns : tie.Need-returns Inv-loop μ-loop
 returns c = collecting-end _ _ _ _ _ _ _ _ (c .before .loop .inv) (c .loop-test .left)
 
-pub collect-row-spec : {M : Type 1} → statement M
-collect-row-spec =
+pub put-row-spec : {M : Type 1} → statement M
+put-row-spec =
     tie.close
     (tie.spec
     Inv-loop
@@ -69,8 +74,9 @@ collect-row-spec =
     mul-if1
     add-if1
     element-copy-out-if1
-    cast-entries
-    element-write-entries
+    cast-matrix
+    mul-matrix
+    element-write-matrix
     add-end
     loop-less
     loop-again

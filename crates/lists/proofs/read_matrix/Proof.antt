@@ -1,0 +1,88 @@
+-- The lists are read, and where the file is accepted the matrix list is built of their parts.
+use mathlib.Core.Path.{sym, _∙_}
+use native.Mathlib.Omega.{arith}
+use Rattle.lists.specs.Listed.{Listed}
+use Rattle.lists.proofs.Loading.{refuses-only, parts-statable, loaded-as}
+use borrow.Author.Needs.{needs}
+use Rattle.lists.proofs.read_matrix.Statement.{statement}
+use Rattle.lists.proofs.read_matrix.Tie as tie
+
+-- the file's lists
+listed : (c : tie.After-found2) →
+    let k = c .before .before .before .before in
+    Listed (k .before .before .before .before .before .before .before .args .file .now) (c .found2 .given .0 .0)
+    (k .read-lists .last .1 .0) (k .read-lists .last .1 .1 .0) (k .read-lists .last .1 .1 .1 .0)
+listed c = let k = c .before .before .before .before in k .read-lists .ensures .1 _ (c .found2 .given .1)
+
+no-lengths-requires : tie.Need-no-lengths-requires
+no-lengths-requires c κs = search needs
+
+no-numbers-requires : tie.Need-no-numbers-requires
+no-numbers-requires c κs = search needs
+
+slice-aggregate-read-lists : tie.Need-slice-aggregate-read-lists
+slice-aggregate-read-lists c = search needs
+
+slice-aggregate-read-lists-2 : tie.Need-slice-aggregate-read-lists-2
+slice-aggregate-read-lists-2 c = search needs
+
+read-lists-requires : tie.Need-read-lists-requires
+read-lists-requires c κs = search needs
+
+enum-known-found : tie.Need-enum-known-found
+enum-known-found c = search needs
+
+enum-known-found-2 : tie.Need-enum-known-found-2
+enum-known-found-2 c = search needs
+
+sub-matrix-list : tie.Need-sub-matrix-list
+sub-matrix-list c = search needs
+
+part-matrix-list-start : tie.Need-part-matrix-list-start
+part-matrix-list-start c = search needs
+
+part-matrix-list-end : tie.Need-part-matrix-list-end
+part-matrix-list-end c = omega (arith, listed (c .before .before) .columns)
+
+sub-matrix-list-2 : tie.Need-sub-matrix-list-2
+sub-matrix-list-2 c = search needs
+
+part-matrix-list-start-2 : tie.Need-part-matrix-list-start-2
+part-matrix-list-start-2 c = search needs
+
+part-matrix-list-end-2 : tie.Need-part-matrix-list-end-2
+part-matrix-list-end-2 c = omega (arith, listed (c .before .before .before .before) .entries)
+
+matrix-list-requires : tie.Need-matrix-list-requires
+matrix-list-requires c κs = parts-statable _ _ _ _ _ (listed (c .before .before .before .before .before))
+
+returns : tie.Need-returns
+returns c =
+    let f = c .before in
+    (λ why e. f .before .before .before .before .read-lists .ensures .0 why (f .found .given .1 ∙ e), λ found e. absurd (refuses-only _ _ e))
+
+returns-2 : tie.Need-returns-2
+returns-2 c =
+    let f = c .before .before .before .before .before .before in
+    (λ why e. absurd (refuses-only _ _ (sym e)), λ found e. loaded-as _ _ _ _ _ (listed f) _ (search needs) (search needs) (c .matrix-list .ensures) found e)
+
+pub read-matrix-spec : {M : Type 1} → statement M
+read-matrix-spec =
+    tie.close
+    (tie.spec
+    no-lengths-requires
+    no-numbers-requires
+    slice-aggregate-read-lists
+    slice-aggregate-read-lists-2
+    read-lists-requires
+    enum-known-found
+    enum-known-found-2
+    sub-matrix-list
+    part-matrix-list-start
+    part-matrix-list-end
+    sub-matrix-list-2
+    part-matrix-list-start-2
+    part-matrix-list-end-2
+    matrix-list-requires
+    returns
+    returns-2)
