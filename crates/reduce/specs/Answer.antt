@@ -3,7 +3,7 @@ use mathlib.Core.List.{List, map}
 use Prim.Native.Nat.{ℕ, suc}
 use lib.ListN.{length, take}
 use Rattle.refusals.specs.Refusals.{Fault, _then_, Outcome, accepted, refused, unless, numberOf}
-use Rattle.node.specs.Matrix.{Matrix, Instance}
+use Rattle.node.specs.Matrix.{Instance}
 use Rattle.node.specs.Node.{root}
 use Rattle.rules.specs.Reduce as rules
 use Rattle.dutyfile.specs.declared.Shape.{Shape}
@@ -20,10 +20,7 @@ reduceOutcome (Refused why) = refused (numberOf why)
 
 -- the file as it stands, reduced: all rows open, all columns free, bound 0
 unfoldable pub reducedRoot : List ℕ → rules.Reduced
-reducedRoot file =
-    let p : Instance = instance (parse file) in
-    let m : Matrix = p .matrix in
-    rules.reduce m (root m (p .costs))
+reducedRoot file = let p : Instance = instance (parse file) in rules.reduce (p .matrix) (root (p .matrix) (p .costs))
 
 unfoldable pub boundOf : List ℕ → Bound
 boundOf file = record { bound = reducedRoot file .node .bound; used = length (reducedRoot file .used) }

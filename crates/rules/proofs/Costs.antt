@@ -15,13 +15,17 @@ use Rattle.node.specs.Node.{isFree, isTaken, costAt, root, take, leave}
 use Rattle.node.specs.Stored.{matrixIn, Kept, FitsNode}
 use Rattle.rules.specs.Reduce.{lower}
 use Rattle.rules.specs.Tree.{joined}
-use Rattle.rules.specs.Identity.{Completion, rest, Identity, ceiling}
+use Rattle.rules.specs.Identity.{Completion, rest, Identity}
 use Rattle.node.proofs.Members.{at-table}
 use Rattle.rules.proofs.Sums.{total-cong, total-add, total-add-le, total-at}
 use Rattle.rules.proofs.Plans.{Open, Free, FreeIn, Sound, rest-row, not-both, root-sound, root-free, root-cost, comp-same}
 use Rattle.rules.proofs.Plans.{sound-same}
 use Rattle.rules.proofs.Decide.{Decided, stays, goes, joins, gained, undo}
 use Rattle.rules.proofs.Steps.{take-decides, take-gains, take-sound, leave-decides, leave-gains, leave-rest, leave-sound}
+
+-- the bound, and the present costs of the free columns
+abbrev pub ceiling : Matrix → Node → ℕ
+ceiling p s = s .bound + total (width p) (λ k. on (isFree s k) (costAt s k))
 
 -- what holds of every node of the sum search; the last says that the bound and the present costs of all free columns never pass the sum
 -- of the costs in the file

@@ -12,13 +12,13 @@ use Rattle.node.specs.Stored.{FitsNode}
 use Rattle.node.specs.Node.{openRows}
 use borrow.Author.Tests.{le-ltb}
 use Rattle.rules.specs.declared.Forced.{Forced}
-use Rattle.rules.specs.Search.{Incumbent, nothing, Walk, enter, walk, lone, finished, answerBy, answerOf, nodes, after, Answer, best, none, stopped, shownBy}
+use Rattle.rules.specs.Search.{Incumbent, nothing, Walk, enter, walk, finished, answerBy, answerOf, nodes, after, Answer, best, none, stopped, shownBy}
 use Rattle.rules.specs.Search.{nodesOf, isNone, isStopped}
 use Rattle.rules.specs.Limited.{fresh, limited, answerFrom}
 use Rattle.rules.specs.Tree.{Variant, live, visit, fullTree, boundOf, rootBound, answer}
 use Rattle.rules.specs.Identity.{Completion}
 use Rattle.rules.specs.Demand.{Demand3}
-use Rattle.rules.proofs.Walks.{Valid, Report, lone-report, walk-report, Meets, answer-meets, walk-step}
+use Rattle.rules.proofs.Walks.{lone, Valid, Report, lone-report, walk-report, Meets, answer-meets, walk-step}
 use Rattle.rules.proofs.Limits.{answer-limited}
 use Rattle.rules.proofs.Rows.{size, size-fits}
 use Rattle.rules.proofs.Variants.{Lowered, Forces, Laws, lowered-comp}

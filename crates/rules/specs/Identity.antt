@@ -20,7 +20,3 @@ rest p s X f = total (width p) (λ k. on (isFree s k && X k) (f k))
 -- every plan that agrees with the node costs its lower bound and the present costs of its free columns
 abbrev pub Identity : Matrix → List ℕ → Node → Type 0
 Identity p costs s = (X : ℕ → Bool) → Completion p s X → price p costs X ≡ s .bound + rest p s X (costAt s)
-
--- the bound, and the present costs of the free columns
-abbrev pub ceiling : Matrix → Node → ℕ
-ceiling p s = s .bound + total (width p) (λ k. on (isFree s k) (costAt s k))

@@ -12,7 +12,7 @@ use Rattle.node.specs.Node.{freeColumns, freeOf, openRows, costAt, take, leave,
 use Rattle.rules.specs.declared.Forced.{Forced}
 use Rattle.rules.specs.Force.{force}
 use Rattle.rules.specs.Reduce.{reduce, byOrder}
-use Rattle.rules.specs.Search.{Incumbent, nothing, reaches, Visit, ended, full, split, Walk, walk, lone, Answer, answerOf}
+use Rattle.rules.specs.Search.{Incumbent, nothing, reaches, Visit, ended, full, split, Walk, walk, Answer, answerOf}
 
 -- What may differ between searches: how a node is forced, the bound as a column is taken, reducing, and a column's
 -- present cost.
@@ -121,9 +121,9 @@ module _ (o : Variant) (p : Matrix) where
   unfoldable pub visit : Node → Incumbent → Visit Node
   visit s k = visitBy (o .settle s) k
 
-  -- from a start, which may be dead
+  -- from a start; a dead one is entered and ends
   unfoldable pub fullTree : Forced → Walk
-  fullTree r = cond (r .alive) (walk visit (suc (width p)) (r .node) nothing) lone
+  fullTree r = cond (r .alive) (walk visit (suc (width p)) (r .node) nothing) (record { entries = nothing ∷ []; end = nothing })
 
   -- a node's bound after forcing and reducing, or after forcing if it is a plan
   unfoldable pub boundOf : Node → List ℕ → ℕ

@@ -2,7 +2,7 @@
 use mathlib.Core.List.{List}
 use Prim.Native.Nat.{ℕ}
 use Rattle.refusals.specs.Refusals.{Fault, ask, _then_, Outcome, unless}
-use Rattle.node.specs.Matrix.{Matrix, Instance}
+use Rattle.node.specs.Matrix.{Instance}
 use Rattle.node.specs.Node.{root}
 use Rattle.rules.specs.Search.{Answer, shownBy}
 use Rattle.rules.specs.Tree.{sum, live, answer}
@@ -17,10 +17,7 @@ callFault found places limit = room (found .rows) places then ask (within 1 1000
 
 -- the rules' answer for a file
 unfoldable pub fileAnswer : List ℕ → ℕ → Answer
-fileAnswer file limit =
-    let p : Instance = instance (parse file) in
-    let m : Matrix = p .matrix in
-    answer (sum m) m (live (root m (p .costs))) limit
+fileAnswer file limit = let p : Instance = instance (parse file) in answer (sum (p .matrix)) (p .matrix) (live (root (p .matrix) (p .costs))) limit
 
 -- searching a file within a node limit, where the lent plan list holds so many places
 unfoldable pub searching : List ℕ → ℕ → ℕ → Outcome Values

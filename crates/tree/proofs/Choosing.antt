@@ -15,7 +15,7 @@ use Rattle.node.specs.Stored.{matrixIn, HasRow}
 use Rattle.node.proofs.Members.{kept, pick-member, least-at}
 use Rattle.rules.specs.Search.{split}
 use Rattle.rules.specs.Tree.{joined, sum, penaltyOf, withoutBound, zeros, dearer, penalty, rowBefore, columnBefore, branchOn}
-use Rattle.rules.specs.Identity.{ceiling}
+use Rattle.rules.proofs.Costs.{ceiling}
 use Rattle.rules.proofs.Sums.{total-one}
 use Rattle.rules.proofs.Plans.{Open, FreeIn}
 use Rattle.rules.proofs.Rows.{open-in, free-in}

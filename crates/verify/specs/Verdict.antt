@@ -4,7 +4,7 @@ use mathlib.Core.List.{List}
 use Prim.Native.Nat.{ℕ, zero, suc}
 use lib.Dec.{eqb}
 use Rattle.node.specs.Lists.{member}
-use Rattle.node.specs.Matrix.{Matrix, count, Instance, price}
+use Rattle.node.specs.Matrix.{Matrix, count, price}
 use Rattle.refusals.specs.Refusals.{ask, _then_, Outcome, accepted, refused, unless, numberOf}
 use Rattle.dutyfile.specs.File.{columnsIn, parse, instance}
 use Rattle.dutyfile.specs.Faults.{rising, fileFault}
@@ -31,9 +31,7 @@ verdict p costs X = lowest (λ i. count p i X) (price p costs X) (p .rows) 0
 
 -- 1 to 9 for the file, then 12: the offered columns rise from 1 to n
 unfoldable pub checking : List ℕ → List ℕ → Outcome Verdict
-checking s js =
-    let p : Instance = instance (parse s) in
-    unless (fileFault s then ask (rising 0 (columnsIn s) js) 12) (verdict (p .matrix) (p .costs) (named js))
+checking s js = unless (fileFault s then ask (rising 0 (columnsIn s) js) 12) (verdict (instance (parse s) .matrix) (parse s .costs) (named js))
 
 -- the call's answer in 01's terms
 unfoldable pub checkOutcome : CheckAnswer → Outcome Verdict
