@@ -2,10 +2,10 @@
 use mathlib.Core.Path.{_≡_, refl, sym, _∙_}
 use mathlib.Core.Bool.{Bool, true, false}
 use mathlib.Core.List.{List}
-use Prim.Native.Nat.{ℕ, _≤_}
+use Prim.Native.Nat.{ℕ, _+_, _-_, _≤_}
 use native.Mathlib.Nat.{zero-add}
-use lib.ListN.{length}
-use lib.Seq.{sets, sets-eq}
+use lib.ListN.{length, getD, drop}
+use lib.Seq.{sets, sets-eq, getD-drop, getD-append-add}
 use native.Mathlib.Omega.{arith}
 use Rattle.refusals.specs.Refusals.{Fault, fine, fault, ask, _then_, numberOf, faultOf, Outcome, accepted, refused, unless, front, filled}
 use Rattle.refusals.specs.declared.Refusal.{Refusal}
@@ -87,6 +87,13 @@ outcome-goes-on g a e = rw (goes-on g e)
 pub front-sets : (new old : List ℕ) → length new ≤ length old → sets old 0 new ≡ front new old
 unfolding front
 front-sets new old h = rw (sets-eq new old 0 (omega arith), zero-add)
+
+-- 01: places beyond what is filled keep their contents
+pub beyond : (new old : List ℕ) (k : ℕ) → length new ≤ k → getD (front new old) k 0 ≡ getD old k 0
+unfolding front
+beyond new old k h =
+    let e : k ≡ length new + (k - length new) = omega arith in
+    rw e (getD-append-add new (drop (length new) old) (k - length new) 0 ∙ getD-drop (length new) old (k - length new) 0)
 
 -- a list that a call fills or leaves, by the call's outcome
 pub fills : {A : Type 0} {o : Outcome A} (a : A) (new old : List ℕ) → o ≡ accepted a → filled o new old ≡ front new old

@@ -7,15 +7,16 @@ use mathlib.Core.Logic.{_↔_}
 use Prim.Native.Nat.{ℕ, zero, suc, _^_, _≤_, _<_}
 use native.Mathlib.Omega.{arith}
 use Rattle.node.specs.declared.Node.{Node}
+use Rattle.node.specs.Lists.{isEmpty}
 use Rattle.node.specs.Matrix.{Matrix, width, chosen, Shows}
 use Rattle.node.specs.Stored.{FitsNode}
 use Rattle.node.specs.Node.{openRows}
 use borrow.Author.Tests.{le-ltb}
 use Rattle.rules.specs.declared.Forced.{Forced}
-use Rattle.rules.specs.Search.{Incumbent, nothing, Walk, enter, walk, finished, answerBy, answerOf, nodes, after, Answer, best, none, stopped, shownBy}
+use Rattle.rules.specs.Search.{Incumbent, nothing, Walk, enter, walk, finished, answerOf, nodes, after, Answer, best, none, stopped, shownBy}
 use Rattle.rules.specs.Search.{nodesOf, isNone, isStopped}
 use Rattle.rules.specs.Limited.{fresh, limited, answerFrom}
-use Rattle.rules.specs.Tree.{Variant, live, visit, fullTree, boundOf, rootBound, answer}
+use Rattle.rules.specs.Tree.{Variant, live, visit, fullTree, rootBound, answer}
 use Rattle.rules.specs.Identity.{Completion}
 use Rattle.rules.specs.Demand.{Demand3}
 use Rattle.rules.proofs.Walks.{lone, Valid, Report, lone-report, walk-report, Meets, answer-meets, walk-step}
@@ -43,7 +44,7 @@ module _ (p : Matrix) (F : FitsNode p) (o : Variant) (Ok : (ℕ → Bool) → Ty
           (λ X c. true≢false (sym (L .start-comp X (c .0) .0) ∙ e))
 
   bound-low : (X : ℕ → Bool) → Ok X → rootBound o p start ≤ value X
-  unfolding rootBound boundOf
+  unfolding rootBound isEmpty
   bound-low X h = go (openRows p t)
     where
       s : Node
@@ -58,7 +59,7 @@ module _ (p : Matrix) (F : FitsNode p) (o : Variant) (Ok : (ℕ → Bool) → Ty
       c : Completion p t X
       c = f .comp X h (L .start-comp X h .1) .1
 
-      go : (is : List ℕ) → boundOf o p t is ≤ value X
+      go : (is : List ℕ) → cond (isEmpty is) (t .bound) (o .lowered t .bound) ≤ value X
       go [] = L .low t (f .good) X c
       go (i ∷ is) =
           let u : Node = o .lowered t in
@@ -150,5 +151,5 @@ limited-answer o p s limit = answer-limited (visit o p) (suc (width p)) s (rootB
 -- a dead start: no plan, and one node
 pub dead-answer : (o : Variant) (p : Matrix) (start : Forced) → start .alive ≡ false → (limit : ℕ) → 1 ≤ limit
     → answer o p start limit ≡ none 1
-unfolding answer fullTree answerOf answerBy finished
+unfolding answer fullTree answerOf finished
 dead-answer o p start e limit l = rw (e, le-ltb limit 1 l)

@@ -16,7 +16,7 @@ use Rattle.node.specs.Node.{isTaken, isOpen, freeColumns, freeOf, openRows, tak
 use Rattle.rules.specs.declared.Forced.{Forced}
 use Rattle.rules.specs.Search.{Incumbent, reaches, Visit, ended, full}
 use Rattle.rules.specs.Tree.{Variant, Penalty, just, most, penaltyOf, plus, withoutBound, zeros, dearer, penalty, rowBefore}
-use Rattle.rules.specs.Tree.{columnBefore, branchOn, reduced, living, visitBy, visit}
+use Rattle.rules.specs.Tree.{columnBefore, branchOn, reduced, living, visit}
 use Rattle.rules.specs.Identity.{Completion}
 use Rattle.rules.proofs.Walks.{Lawful, reaches-true, at-most-le}
 use Rattle.node.proofs.Members.{not-so, member-cases, kept, member-keep, upto-lt, keep-cong, pick-member}
@@ -180,7 +180,7 @@ module _ (p : Matrix) (F : FitsNode p) (o : Variant) (Ok : (ℕ → Bool) → Ty
       (λ j h. lowered-open p o Good t u r j (open-in p t j (rw e h)))
 
   pub visit-law : (s : Node) (k : Incumbent) → Good s → Law s k (visit o p s k)
-  unfolding visit visitBy
+  unfolding visit
   visit-law s k g = go (o .settle s .alive) refl
     where
       t : Node

@@ -7,10 +7,10 @@ use Rattle.node.specs.Matrix.{Matrix, covers, meets, Instance}
 use Rattle.node.specs.Node.{freeColumns, freeOf, openRows, taken, root, take, leave}
 use Rattle.rules.specs.Force.{rowsWith, askedBy, asked, forceOn, forceBy, force}
 use Rattle.rules.specs.Reduce.{leastOf, candidates, candidate, byOrder, precedes, rowFirst, lower, reduceOn, reduceBy, reduce}
-use Rattle.rules.specs.Search.{reaches, improve, second, enter, walk, after, best, finished, answerBy}
+use Rattle.rules.specs.Search.{reaches, improve, second, enter, walk, after, best, finished}
 use Rattle.rules.specs.Search.{answerOf}
 use Rattle.rules.specs.Tree.{penaltyOf, plus, aboveP, sameP, withoutBound, zeros, dearer, penalty, rowBefore, sharing}
-use Rattle.rules.specs.Tree.{columnBefore, branchOn, reduced, living, visitBy, visit, fullTree, boundOf, rootBound, answer}
+use Rattle.rules.specs.Tree.{columnBefore, branchOn, reduced, living, visit, fullTree, rootBound, answer}
 use Rattle.rules.specs.Files.{file, numbered, solved, usual}
 
 -- The five criteria, by the rows in the sequence that reducing uses them, numbered from 1.
@@ -108,7 +108,7 @@ cases :
     ∷ [])
 unfolding numbered keep from member leastFrom least pick isEmpty first covers meets freeColumns freeOf openRows taken root
     take leave leastOf candidates candidate byOrder precedes rowFirst lower reduceOn reduceBy reduce rowsWith askedBy asked
-    forceOn forceBy force reaches improve second enter walk finished after answerBy answerOf zeros dearer penaltyOf penalty
-    aboveP sameP rowBefore sharing columnBefore plus withoutBound branchOn reduced living visitBy visit fullTree boundOf
-    rootBound answer
+    forceOn forceBy force reaches improve second enter walk finished after answerOf zeros dearer penaltyOf penalty
+    aboveP sameP rowBefore sharing columnBefore plus withoutBound branchOn reduced living visit fullTree rootBound
+    answer
 cases = refl

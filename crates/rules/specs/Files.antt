@@ -8,9 +8,9 @@ use Rattle.node.specs.Node.{freeColumns, freeOf, openRows, taken, root, take, l
 use Rattle.rules.specs.Force.{rowsWith, askedBy, asked, forceOn, forceBy, force}
 use Rattle.rules.specs.Reduce.{leastOf, candidates, candidate, byOrder, precedes, rowFirst, lower, reduceOn, reduceBy, reduce}
 use Rattle.rules.specs.Search.{nothing, plan, reaches, improve, second, enter, walk, after, Answer, best, none, stopped}
-use Rattle.rules.specs.Search.{finished, answerBy, answerOf}
+use Rattle.rules.specs.Search.{finished, answerOf}
 use Rattle.rules.specs.Tree.{sum, live, penaltyOf, plus, aboveP, sameP, withoutBound, zeros, dearer, penalty, rowBefore, sharing}
-use Rattle.rules.specs.Tree.{columnBefore, branchOn, reduced, living, visitBy, visit, fullTree, boundOf, rootBound, answer}
+use Rattle.rules.specs.Tree.{columnBefore, branchOn, reduced, living, visit, fullTree, rootBound, answer}
 
 -- m rows, and the cost and the body of each column
 abbrev pub file : ℕ → List ℕ → List (List ℕ) → Instance
@@ -88,7 +88,7 @@ files :
     ∷ [])
 unfolding numbered keep from member leastFrom least pick isEmpty first covers meets freeColumns freeOf openRows taken root
     take leave leastOf candidates candidate byOrder precedes rowFirst lower reduceOn reduceBy reduce rowsWith askedBy asked
-    forceOn forceBy force reaches improve second enter walk finished after answerBy answerOf zeros dearer penaltyOf penalty
-    aboveP sameP rowBefore sharing columnBefore plus withoutBound branchOn reduced living visitBy visit fullTree boundOf
-    rootBound answer
+    forceOn forceBy force reaches improve second enter walk finished after answerOf zeros dearer penaltyOf penalty
+    aboveP sameP rowBefore sharing columnBefore plus withoutBound branchOn reduced living visit fullTree rootBound
+    answer
 files = refl

@@ -6,7 +6,7 @@ use Prim.Native.Nat.{ℕ, suc, _+_, _*_}
 use lib.ListN.{length}
 use lib.Dec.{eqb, ltb}
 use Rattle.node.specs.declared.Node.{Node}
-use Rattle.node.specs.Lists.{keep, least, pick}
+use Rattle.node.specs.Lists.{isEmpty, keep, least, pick}
 use Rattle.node.specs.Matrix.{Matrix, width, span, meets}
 use Rattle.node.specs.Node.{freeColumns, freeOf, openRows, costAt, take, leave, taken}
 use Rattle.rules.specs.declared.Forced.{Forced}
@@ -14,8 +14,7 @@ use Rattle.rules.specs.Force.{force}
 use Rattle.rules.specs.Reduce.{reduce, byOrder}
 use Rattle.rules.specs.Search.{Incumbent, nothing, reaches, Visit, ended, full, split, Walk, walk, Answer, answerOf}
 
--- What may differ between searches: how a node is forced, the bound as a column is taken, reducing, and a column's
--- present cost.
+-- What may differ between searches: forcing, the bound as a column is taken, reducing, and a column's present cost.
 pub record Variant : Type 0 where
   pub settle : Node → Forced
   pub join : Node → ℕ → ℕ
@@ -114,25 +113,17 @@ module _ (o : Variant) (p : Matrix) where
   living s k [] = full (s .bound) (taken p s)
   living s k (i ∷ is) = reduced (o .lowered s) k i is
 
-  unfoldable pub visitBy : Forced → Incumbent → Visit Node
-  visitBy f k = cond (f .alive) (living (f .node) k (openRows p (f .node))) ended
-
   -- what a node comes to: force, reduce, choose, branch
   unfoldable pub visit : Node → Incumbent → Visit Node
-  visit s k = visitBy (o .settle s) k
+  visit s k = let f : Forced = o .settle s in cond (f .alive) (living (f .node) k (openRows p (f .node))) ended
 
   -- from a start; a dead one is entered and ends
   unfoldable pub fullTree : Forced → Walk
   fullTree r = cond (r .alive) (walk visit (suc (width p)) (r .node) nothing) (record { entries = nothing ∷ []; end = nothing })
 
-  -- a node's bound after forcing and reducing, or after forcing if it is a plan
-  unfoldable pub boundOf : Node → List ℕ → ℕ
-  boundOf s [] = s .bound
-  boundOf s (i ∷ is) = o .lowered s .bound
-
-  -- the root's lower bound (01: root floor)
+  -- the root's lower bound (01: root floor): after forcing and reducing, or after forcing if it is a plan
   unfoldable pub rootBound : Forced → ℕ
-  rootBound r = let t : Node = o .settle (r .node) .node in boundOf t (openRows p t)
+  rootBound r = let t : Node = o .settle (r .node) .node in cond (isEmpty (openRows p t)) (t .bound) (o .lowered t .bound)
 
   -- the answer within a node limit (01: allowance)
   unfoldable pub answer : Forced → ℕ → Answer

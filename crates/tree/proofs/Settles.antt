@@ -9,7 +9,7 @@ use Rattle.node.specs.declared.Node.{Node}
 use Rattle.node.specs.Matrix.{Matrix}
 use Rattle.node.specs.Node.{openRows, taken}
 use Rattle.rules.specs.Search.{Incumbent, reaches, ended, full}
-use Rattle.rules.specs.Tree.{Variant, reduced, living, visitBy, visit}
+use Rattle.rules.specs.Tree.{Variant, reduced, living, visit}
 use Rattle.rules.proofs.Rows.{size}
 use Rattle.rules.proofs.Decide.{decided-le}
 use Rattle.rules.proofs.Variants.{Forces, Lowered, Stepping, lowered-size, lowered-two}
@@ -45,7 +45,7 @@ module _ (o : Variant) (p : Matrix) (Ok : (ℕ → Bool) → Type 0) (Good : Nod
   lowers = S .reducing t (forces .good)
 
   by : (b : Bool) → o .settle s .alive ≡ b → (k : Incumbent) → visit o p s k ≡ cond b (living o p t k (openRows p t)) ended
-  unfolding visit visitBy t
+  unfolding visit t
   by b e k = ap (λ (x : Bool). cond x (living o p t k (openRows p t)) ended) e
 
   rows-same : openRows p n ≡ openRows p t

@@ -1,6 +1,6 @@
 -- Settling a node is forcing it and, where it is alive with open rows, reducing it. Forcing keeps a node fair, so that it can be reduced.
 use mathlib.Core.Path.{_≡_, refl, ap, sym, _∙_}
-use mathlib.Core.Bool.{Bool, true, false, false≢true, true≢false}
+use mathlib.Core.Bool.{Bool, true, false, cond, false≢true, true≢false}
 use mathlib.Core.List.{List, [], _∷_}
 use Prim.Native.Nat.{ℕ}
 use lib.Dec.{ltb}
@@ -12,7 +12,7 @@ use Rattle.node.specs.View.{view}
 use Rattle.node.specs.Stored.{matrixIn, FitsNode}
 use Rattle.rules.specs.declared.Forced.{Forced}
 use Rattle.rules.specs.Reduce.{leastOf, candidates, reduce}
-use Rattle.rules.specs.Tree.{Variant, sum, live, boundOf, rootBound}
+use Rattle.rules.specs.Tree.{Variant, sum, live, rootBound}
 use Rattle.rules.proofs.Costs.{Workable}
 use Rattle.rules.proofs.Reducing.{reduced-none}
 use Rattle.rules.proofs.Sum.{workable-steps}
@@ -75,29 +75,33 @@ module _ (p : Matrix) (F : FitsNode p) (s : Node) where
   t : Forced
   t = sum p .settle s
 
+  -- by the open rows
+  bound : List ℕ → ℕ
+  bound is = cond (isEmpty is) (t .node .bound) (reduce p (t .node) .node .bound)
+
   -- a node without open rows has no candidates, so reducing leaves it
-  reduced-bound : (is : List ℕ) → openRows p (t .node) ≡ is → reduce p (t .node) .node .bound ≡ boundOf (sum p) p (t .node) is
-  unfolding boundOf candidates keep
+  reduced-bound : (is : List ℕ) → openRows p (t .node) ≡ is → reduce p (t .node) .node .bound ≡ bound is
+  unfolding bound isEmpty candidates keep
   reduced-bound [] e = rw (reduced-none p F (t .node) (ap (keep (λ i. ltb 0 (leastOf p (t .node) i))) e))
   reduced-bound (i ∷ is) e = refl
 
   module _ (x : Settled) (told : x ≡ settled (sum p) p s) where
     pub bound-alive : x .alive ≡ true → x .node .bound ≡ rootBound (sum p) p (live s)
-    unfolding settled rootBound settledBy boundOf t
+    unfolding settled rootBound settledBy bound isEmpty t
     bound-alive = rw told (go (t .alive) (openRows p (t .node)))
       where
         go : (b : Bool) (is : List ℕ) → settledBy (sum p) b (t .node) is .alive ≡ true →
-            settledBy (sum p) b (t .node) is .node .bound ≡ boundOf (sum p) p (t .node) is
+            settledBy (sum p) b (t .node) is .node .bound ≡ bound is
         go false is h = absurd (false≢true h)
         go true [] h = refl
         go true (i ∷ is) h = refl
 
     pub bound-dead : x .alive ≡ false → (n : Node) → n ≡ reduce p (x .node) .node → n .bound ≡ rootBound (sum p) p (live s)
-    unfolding settled rootBound settledBy t
+    unfolding settled rootBound settledBy bound t
     bound-dead h n d = rw (d, told) (go (t .alive) (openRows p (t .node)) refl (rw told at h))
       where
         go : (b : Bool) (is : List ℕ) → openRows p (t .node) ≡ is → settledBy (sum p) b (t .node) is .alive ≡ false →
-            reduce p (settledBy (sum p) b (t .node) is .node) .node .bound ≡ boundOf (sum p) p (t .node) is
+            reduce p (settledBy (sum p) b (t .node) is .node) .node .bound ≡ bound is
         go false is e h = reduced-bound is e
         go true [] e h = absurd (true≢false h)
         go true (i ∷ is) e h = absurd (true≢false h)
