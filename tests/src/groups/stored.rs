@@ -1,5 +1,5 @@
-//! What the repository stores against what `spp_tests::stored` works out anew: the outputs of the gate's programs, the tables of the rules and
-//! the lines of the samples. In a difference, what is found is stored and what is wanted is worked out; the program `remake` prints it.
+//! What the repository stores against what `spp_tests::stored` works out anew: the outputs of the gate's programs, the tables of the rules
+//! and the lines of the samples. In a difference, what is found is stored and what is wanted is worked out; the program `remake` prints it.
 
 use spp_tests::files::{self, Columns};
 use spp_tests::second::{least_price, Least};

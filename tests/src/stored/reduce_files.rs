@@ -1,5 +1,5 @@
-//! The output of crates/reduce_files, which has no input: the paper's examples, two larger files by a rule, and example 1 with lists of other
-//! lengths. The files are made here and not read from the program.
+//! The output of crates/reduce_files, which has no input: the paper's examples, two larger files by a rule, and example 1 with lists of
+//! other lengths. The files are made here and not read from the program.
 
 use super::line::fields;
 use crate::files::{self, Columns};

@@ -1,6 +1,6 @@
 //! The tables of the rules, which are proved there by computing: `orders` and `cases` in crates/rules/specs/Cases.antt and `files` in
-//! Files.antt. A table is read as `NAME : QUESTIONS ≡ VALUES`, with the questions `order INSTANCE` or `solved INSTANCE LIMIT`. Of the rest
-//! of these files only instances and numbers are read.
+//! Files.antt. A table is read as `NAME : QUESTIONS ≡ VALUES`, with the questions `order INSTANCE` or `solved INSTANCE LIMIT`. Of the
+//! rest of these files only instances and numbers are read.
 
 use super::names::Names;
 use super::reader::{statements, texts, Reader, Token};

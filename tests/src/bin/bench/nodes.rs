@@ -48,8 +48,10 @@ pub fn ferry_files() -> Vec<Sample> {
 pub fn table(samples: &[Sample]) {
     println!("## Time for each node\n");
     println!("Ferry-like files, 64 sailings by 256 duties, allowance 1,000,000; the whole call divided by its nodes. Files 1 to");
-    println!("{SMALL_FILES} are the generator's first ones with trees of 200 to 6,000 nodes, {SMALL_REPEATS} runs each; the others were chosen by");
-    println!("their seeds for the sizes of their trees, {LARGE_REPEATS} runs each.\n");
+    println!(
+        "{SMALL_FILES} are the generator's first ones with trees of 200 to 6,000 nodes, {SMALL_REPEATS} runs each; the others"
+    );
+    println!("were chosen by their seeds for the sizes of their trees, {LARGE_REPEATS} runs each.\n");
     println!("| file | entries | nodes | engine, µs a node | (a), µs a node | ratio |");
     println!("|---|---|---|---|---|---|");
     let mut all = Vec::new();

@@ -63,9 +63,9 @@ fn head() {
         "The files of the table above. Each solve is a process of its own, its start and the reading of its file included; the"
     );
     println!("other solvers read the same problem in the LP format and run with their defaults, at most {TIME_LIMIT} seconds. The processes");
-    println!("run in turn, {LEAST_ROUNDS} to {MOST_ROUNDS} times each. The engine's call alone is timed inside the same processes, where it is the first");
-    println!("call and meets cold caches and a stack that is not yet mapped; the calls of the table above are repeated in one process.");
-    println!("Ratios are of the processes.\n");
+    println!("run in turn, {LEAST_ROUNDS} to {MOST_ROUNDS} times each; ratios are of the processes. The engine's call alone is timed inside the same");
+    println!("processes, where it is the first call and meets cold caches and a stack that is not yet mapped; the calls of the");
+    println!("table above are repeated in one process.\n");
 }
 
 pub fn table(samples: &[Sample]) {
