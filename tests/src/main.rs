@@ -1,5 +1,5 @@
 //! Compares the engine's static library with (a), `spp_tests::plain`, and with the second solver. Prints how many cases were compared; the
-//! exit status is 1 if anything differs.
+//! exit status is 1 if anything differs. `spp-tests stored` compares the stored values alone.
 
 mod compare;
 mod groups;
@@ -12,6 +12,9 @@ use report::Report;
 
 /// The word that makes the program run the deepest searches on a small stack.
 const SMALL_STACK: &str = "small-stack";
+
+/// The word for the stored values alone.
+const STORED: &str = "stored";
 
 fn status(passed: bool) -> ExitCode {
     if passed {
@@ -34,6 +37,7 @@ fn compare_all() -> bool {
     let mut report = Report::default();
     println!("(a) is the plain implementation in tests/src/plain, the second solver is tests/src/second.rs");
     groups::worked::run(&mut report);
+    groups::stored::run(&mut report);
     groups::generated::run(&mut report);
     groups::limits::largest(&mut report);
     groups::damaged::run(&mut report);
@@ -45,11 +49,20 @@ fn compare_all() -> bool {
     passed
 }
 
+fn compare_stored() -> bool {
+    let mut report = Report::default();
+    groups::stored::run(&mut report);
+    report.finish()
+}
+
 fn main() -> ExitCode {
-    if std::env::args().nth(1).as_deref() == Some(SMALL_STACK) {
-        return status(groups::deep::on_small_stack());
-    }
+    let word = std::env::args().nth(1);
+    let compare = match word.as_deref() {
+        Some(SMALL_STACK) => return status(groups::deep::on_small_stack()),
+        Some(STORED) => compare_stored,
+        _ => compare_all,
+    };
     // A large stack here, so that the need of the engine is a matter of its own test alone.
-    let thread = std::thread::Builder::new().stack_size(256 << 20).spawn(compare_all).expect("a thread starts");
+    let thread = std::thread::Builder::new().stack_size(256 << 20).spawn(compare).expect("a thread starts");
     status(thread.join().unwrap_or(false))
 }

@@ -1,13 +1,13 @@
 //! Generated files: every call against `plain`, the search against the second solver, every plan shown against the plan check, and floor
 //! plus reduced prices against the price of every plan.
 
-use spp_tests::answers::{Answer, BEST, STOPPED};
+use spp_tests::answers::{Answer, STOPPED};
 use spp_tests::files::Columns;
 use spp_tests::generate;
 use spp_tests::random::Random;
 use spp_tests::second::{each_plan, least_price, Least};
 
-use super::limits;
+use super::{limits, prices};
 use crate::compare::{self, Lists};
 use crate::report::{hex, Report};
 
@@ -137,20 +137,8 @@ fn searches(report: &mut Report, columns: &Columns, file: &[u8], limit: u32, tot
     totals.stopped += (answer.outcome == STOPPED) as usize;
     let least = least_price(columns, MOST_SETS);
     report.group("search: best price, none and root floor against the second solver");
-    match least {
-        Least::Unknown => totals.unknown += 1,
-        _ if answer.outcome == STOPPED => {
-            if let Least::Price(least) = least {
-                let between = answer.bound <= least && (answer.has_plan == 0 || least <= answer.price);
-                report.holds(between, || format!("{answer:?}, cheapest price {least}, {}", hex(file)));
-            }
-        }
-        _ => {
-            let found = if answer.outcome == BEST { Least::Price(answer.price) } else { Least::NoPlan };
-            report.same(&found, &least, || hex(file));
-            report.holds(answer.bound <= answer.price, || hex(file));
-        }
-    }
+    totals.unknown += (least == Least::Unknown) as usize;
+    prices::compare(report, &answer, least, || hex(file));
     answer
 }
 

@@ -1,10 +1,11 @@
-//! The paper's examples 1 to 4 and 01's "Files to try", with the values that are stated there; and the cases that are proved of the rules.
+//! The paper's examples 1 to 4 and 01's "Files to try", with the values that are stated there.
 
 use spp_tests::answers::{Answer, Shape, BEST, NONE, STOPPED};
 use spp_tests::engine;
 use spp_tests::files::{self, columns, Columns};
-use spp_tests::second::{least_price, Least};
+use spp_tests::second::least_price;
 
+use super::prices;
 use crate::compare;
 use crate::report::Report;
 
@@ -82,52 +83,6 @@ fn reductions() -> Vec<Reduction> {
     ]
 }
 
-/// The searches of crates/rules/specs/Cases.antt, which hold rules that no file of 01 shows.
-fn rule_searches() -> Vec<Search> {
-    let case = |name, rows, pairs: &[(&[u8], u32)], answer, plan| Search {
-        name,
-        columns: columns(rows, pairs),
-        limit: LIMIT,
-        answer,
-        plan,
-    };
-    vec![
-        case("fewFreeRow", 2, &[(&[1], 1), (&[2], 1), (&[1, 2], 3), (&[1], 2)], best(2, 2, 3, 2), &[1, 2]),
-        case("lowestRow", 3, &[(&[1], 1), (&[2, 3], 1), (&[1, 2, 3], 2)], best(2, 2, 2, 1), &[3]),
-        case("allZero", 3, &[(&[1, 3], 1), (&[2], 1), (&[1], 1), (&[1, 2, 3], 2)], best(2, 2, 2, 1), &[4]),
-        case("leastRatio", 2, &[(&[1], 1), (&[1, 2], 2), (&[2], 1)], best(2, 2, 2, 1), &[2]),
-        case("zeroOnly", 2, &[(&[1], 1), (&[1, 2], 2), (&[2], 1), (&[2], 2)], best(2, 2, 2, 1), &[2]),
-        case(
-            "twoZeros",
-            3,
-            &[(&[1, 3], 1), (&[2, 3], 2), (&[1, 2], 1), (&[2], 6), (&[1, 2], 6), (&[3], 5)],
-            best(6, 2, 4, 2),
-            &[3, 6],
-        ),
-        case("stepBack", 4, &[(&[1, 4], 1), (&[1, 3, 4], 3), (&[2, 3, 4], 2), (&[2], 3)], best(6, 3, 3, 2), &[2, 4]),
-        case("equalPlans", 3, &[(&[2], 3), (&[1, 2], 2), (&[2, 3], 1), (&[1, 3], 1), (&[3], 2)], best(4, 2, 3, 2), &[2, 5]),
-        case(
-            "equalBound",
-            3,
-            &[(&[3], 5), (&[1, 2], 6), (&[1], 2), (&[1, 3], 3), (&[2, 3], 9), (&[1], 2)],
-            best(11, 9, 3, 2),
-            &[1, 2],
-        ),
-    ]
-}
-
-/// The orders of reducing of crates/rules/specs/Cases.antt, one for each of the five criteria and a second one for the fourth.
-fn rule_orders() -> Vec<(&'static str, Columns, Vec<u8>)> {
-    vec![
-        ("fewFree", columns(2, &[(&[1], 1), (&[2], 1), (&[1], 2)]), vec![2, 1]),
-        ("fewLeast", columns(2, &[(&[1], 1), (&[2], 2), (&[1, 2], 1)]), vec![2]),
-        ("dearLeast", columns(2, &[(&[1], 1), (&[2], 2)]), vec![2, 1]),
-        ("shortLeast", columns(3, &[(&[1, 2], 1), (&[3], 1)]), vec![3, 1]),
-        ("anyShort", columns(2, &[(&[2], 2), (&[1, 2], 2), (&[1], 2)]), vec![1]),
-        ("lowRow", columns(2, &[(&[1], 1), (&[2], 1)]), vec![1, 2]),
-    ]
-}
-
 /// One column of all rows, cost 1.
 fn one_column(rows: u16) -> Columns {
     Columns { rows, costs: vec![1], bodies: vec![(1..=rows as u8).collect()] }
@@ -165,17 +120,8 @@ fn limits() -> Vec<(&'static str, Columns, u32)> {
 fn stated_search(report: &mut Report, case: &Search) {
     let found = compare::search(report, &case.columns.file(), case.limit, case.columns.rows as usize);
     report.same(&found, &(case.answer, case.plan.to_vec()), || case.name.to_string());
-    let wanted = match case.answer.outcome {
-        STOPPED => return,
-        NONE => Least::NoPlan,
-        _ => Least::Price(case.answer.price),
-    };
-    report.same(&least_price(&case.columns, 10_000), &wanted, || format!("second solver, {}", case.name));
-}
-
-fn stated_order(report: &mut Report, name: &str, columns: &Columns, wanted: &[u8]) {
-    let (answer, _, order) = compare::reduce(report, &columns.file(), [columns.costs.len(), columns.rows as usize]);
-    report.same(&&order.list()[..answer.used as usize], &wanted, || name.to_string());
+    let least = least_price(&case.columns, 10_000);
+    prices::compare(report, &case.answer, least, || format!("second solver, {}", case.name));
 }
 
 fn stated_reduction(report: &mut Report, case: &Reduction) {
@@ -187,13 +133,9 @@ fn stated_reduction(report: &mut Report, case: &Reduction) {
 }
 
 pub fn run(report: &mut Report) {
-    report.group("stated values: the paper's examples, 01's files to try, the cases of the rules");
+    report.group("stated values: the paper's examples, 01's files to try");
     searches().iter().for_each(|case| stated_search(report, case));
     reductions().iter().for_each(|case| stated_reduction(report, case));
-    rule_searches().iter().for_each(|case| stated_search(report, case));
-    for (name, columns, order) in rule_orders() {
-        stated_order(report, name, &columns, &order);
-    }
     for (name, columns, refusal) in limits() {
         let found = compare::read(report, &columns.file(), [256, 256, 4096]);
         report.same(&found.0.refusal, &refusal, || name.to_string());

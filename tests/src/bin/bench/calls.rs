@@ -39,7 +39,8 @@ fn line(name: &str, engine: impl Fn(&mut Lists), base: impl Fn(&mut Lists)) {
         || (0..CALLS).for_each(|_| base(&mut second_lists)),
     );
     let each = 1e6 / CALLS as f64;
-    println!("| {name} | {:.2} | {:.2} | {:.2} |", first * each, second * each, first / second);
+    let cells = [first.times(each), second.times(each), first.divided_by(&second)].map(|runs| runs.shown(2));
+    println!("| {name} | {} |", cells.join(" | "));
 }
 
 pub fn table() {
@@ -47,8 +48,9 @@ pub fn table() {
     let file = columns.file();
     let (costs, lengths, numbers) = (columns.costs.clone(), columns.lengths(), columns.numbers());
     let offered: Vec<u16> = (1..=256).step_by(64).collect();
+    eprintln!("bench: the other calls");
     println!("## The other calls on the largest file\n");
-    println!("64 sailings, 256 duties, 4,096 sailing numbers, {} bytes.\n", file.len());
+    println!("64 sailings, 256 duties, 4,096 sailing numbers, {} bytes; {REPEATS} runs of {CALLS} calls.\n", file.len());
     println!("| call | engine, µs | (a), µs | ratio |");
     println!("|---|---|---|---|");
     line(

@@ -5,13 +5,15 @@
 mod calls;
 mod growth;
 mod measure;
+mod model;
 mod nodes;
+mod others;
+mod processes;
+mod runs;
 mod solvers;
 mod stack;
 
 use std::fs;
-
-use spp_tests::engine;
 
 /// The processor's name as the system gives it.
 fn processor() -> String {
@@ -28,23 +30,18 @@ fn machine() {
         "Printed by `./bench`. \"Engine\" is the proved static library, \"(a)\" the plain implementation in tests/src/plain,"
     );
     println!("both built for release. Times are medians of repeated runs, in processor time (user and system) of one thread or");
-    println!("process; a ratio is the engine's time divided by the other's. Lent lists are not cleared between the runs.\n");
+    println!(
+        "process; in parentheses stand the lower and the upper quartile of these runs. A ratio is the engine's time divided by"
+    );
+    println!("that of the other's run that was taken in turn with it. Lent lists are not cleared between the runs.\n");
     println!("- Machine: {}, {cores} cores, {} {}", processor(), std::env::consts::OS, std::env::consts::ARCH);
     println!("- Compiler of (a): {compiler}\n");
-}
-
-/// The engine as a process: reads a file, searches, prints price and nodes.
-fn solve(name: &str) {
-    let file = fs::read(name).expect("the file can be read");
-    let mut plan = [0; 64];
-    let answer = engine::search(&file, 1_000_000, &mut plan);
-    println!("{} {}", answer.price, answer.nodes);
 }
 
 fn main() {
     let words: Vec<String> = std::env::args().collect();
     if words.len() == 3 && words[1] == "solve" {
-        return solve(&words[2]);
+        return processes::solve(&words[2]);
     }
     machine();
     let files = nodes::ferry_files();

@@ -3,15 +3,7 @@
 use std::hint::black_box;
 use std::process::Command;
 
-/// The median of some numbers; not a number if there are none.
-pub fn median(mut numbers: Vec<f64>) -> f64 {
-    numbers.sort_by(f64::total_cmp);
-    match numbers.len() {
-        0 => f64::NAN,
-        count if count % 2 == 1 => numbers[count / 2],
-        count => (numbers[count / 2 - 1] + numbers[count / 2]) / 2.0,
-    }
-}
+use crate::runs::Runs;
 
 /// Takes a call's answer, so that the call is not left out.
 pub fn keep<T>(answer: T) {
@@ -58,31 +50,37 @@ fn of_children() -> f64 {
     (usage.user.seconds + usage.system.seconds) as f64 + (usage.user.part + usage.system.part) as f64 / 1e6
 }
 
-/// Seconds of processor time that a run takes by a clock.
-fn seconds(clock: fn() -> f64, run: &mut impl FnMut()) -> f64 {
+/// What a run gives, and the seconds of processor time that it takes by a clock.
+fn timed<T>(clock: fn() -> f64, run: impl FnOnce() -> T) -> (T, f64) {
     let start = clock();
-    run();
-    clock() - start
+    let given = run();
+    (given, clock() - start)
 }
 
-/// The median seconds of two runs, each repeated `count` times in turn, so that both meet the same state of the machine.
-pub fn in_turn(count: usize, mut first: impl FnMut(), mut second: impl FnMut()) -> (f64, f64) {
+/// What a call gives, and its seconds in this thread.
+pub fn call<T>(run: impl FnOnce() -> T) -> (T, f64) {
+    timed(of_thread, run)
+}
+
+/// What is given by running a child process to its end, and the child's seconds.
+pub fn process<T>(run: impl FnOnce() -> T) -> (T, f64) {
+    timed(of_children, run)
+}
+
+/// The seconds of two runs, each repeated `count` times in turn, so that both meet the same state of the machine. A first run of each is
+/// not counted.
+pub fn in_turn(count: usize, mut first: impl FnMut(), mut second: impl FnMut()) -> (Runs, Runs) {
     first();
     second();
-    let pairs: Vec<(f64, f64)> = (0..count).map(|_| (seconds(of_thread, &mut first), seconds(of_thread, &mut second))).collect();
-    (median(pairs.iter().map(|pair| pair.0).collect()), median(pairs.iter().map(|pair| pair.1).collect()))
+    let pairs = (0..count).map(|_| (call(&mut first).1, call(&mut second).1));
+    let (first, second) = pairs.unzip();
+    (Runs::new(first), Runs::new(second))
 }
 
-/// The median seconds of a run repeated `count` times.
-pub fn repeated(count: usize, mut run: impl FnMut()) -> f64 {
+/// The seconds of a run repeated `count` times. A first run is not counted.
+pub fn repeated(count: usize, mut run: impl FnMut()) -> Runs {
     run();
-    median((0..count).map(|_| seconds(of_thread, &mut run)).collect())
-}
-
-/// The median seconds of a child process that is run `count` times.
-pub fn processes(count: usize, mut run: impl FnMut()) -> f64 {
-    run();
-    median((0..count).map(|_| seconds(of_children, &mut run)).collect())
+    Runs::new((0..count).map(|_| call(&mut run).1).collect())
 }
 
 /// The first line that a command prints, if it runs.

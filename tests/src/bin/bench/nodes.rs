@@ -5,52 +5,70 @@ use spp_tests::random::Random;
 use spp_tests::{engine, generate, plain};
 
 use crate::measure;
+use crate::runs::Runs;
 
-const FILES: usize = 12;
-const REPEATS: usize = 15;
+const SMALL_FILES: usize = 12;
+const SMALL_REPEATS: usize = 15;
 
-/// A file with the size of its tree.
+/// Seeds of files whose trees have about 10,000, 30,000, 100,000, 300,000 and 500,000 nodes.
+const LARGE_SEEDS: [u64; 5] = [118, 138, 160, 521, 353];
+const LARGE_REPEATS: usize = 5;
+
+/// A file with the size of its tree, and how often its search is repeated.
 pub struct Sample {
     pub columns: Columns,
     pub file: Vec<u8>,
     pub nodes: u32,
+    pub repeats: usize,
 }
 
-/// Ferry files whose trees have some hundred to some thousand nodes.
+fn sample(columns: Columns, limit: u32, repeats: usize) -> Sample {
+    let file = columns.file();
+    let nodes = plain::tree(&file, limit).expect("the file is accepted").answer.nodes;
+    Sample { columns, file, nodes, repeats }
+}
+
+/// Ferry files whose trees have some hundred to some thousand nodes, and the larger ones.
 pub fn ferry_files() -> Vec<Sample> {
+    eprintln!("bench: choosing the ferry files");
     let mut random = Random::new(64_256);
     let mut samples = Vec::new();
-    while samples.len() < FILES {
-        let columns = generate::large_ferry(&mut random);
-        let file = columns.file();
-        let nodes = plain::tree(&file, 6000).expect("the file is accepted").answer.nodes;
-        if (200..6000).contains(&nodes) {
-            samples.push(Sample { columns, file, nodes });
+    while samples.len() < SMALL_FILES {
+        let sample = sample(generate::large_ferry(&mut random), 6000, SMALL_REPEATS);
+        if (200..6000).contains(&sample.nodes) {
+            samples.push(sample);
         }
     }
+    let large = |seed| sample(generate::large_ferry(&mut Random::new(seed)), 1_000_000, LARGE_REPEATS);
+    samples.extend(LARGE_SEEDS.map(large));
     samples.sort_by_key(|sample| sample.nodes);
     samples
 }
 
 pub fn table(samples: &[Sample]) {
     println!("## Time for each node\n");
-    println!("Ferry-like files, 64 sailings by 256 duties, allowance 1,000,000; the whole call divided by its nodes.\n");
+    println!("Ferry-like files, 64 sailings by 256 duties, allowance 1,000,000; the whole call divided by its nodes. Files 1 to");
+    println!(
+        "{SMALL_FILES} are the generator's first ones with trees of 200 to 6,000 nodes, {SMALL_REPEATS} runs each; the others"
+    );
+    println!("were chosen by their seeds for the sizes of their trees, {LARGE_REPEATS} runs each.\n");
     println!("| file | entries | nodes | engine, µs a node | (a), µs a node | ratio |");
     println!("|---|---|---|---|---|---|");
     let mut all = Vec::new();
     for (number, sample) in samples.iter().enumerate() {
+        eprintln!("bench: time for each node, file {} of {}, {} nodes", number + 1, samples.len(), sample.nodes);
         let (mut plan, mut other) = ([0; 64], [0; 64]);
         let (engine, base) = measure::in_turn(
-            REPEATS,
+            sample.repeats,
             || measure::keep(engine::search(&sample.file, 1_000_000, &mut plan)),
             || measure::keep(plain::search(&sample.file, 1_000_000, &mut other)),
         );
         let each = 1e6 / sample.nodes as f64;
-        let (entries, nodes) = (sample.columns.entries(), sample.nodes);
-        let line = (engine * each, base * each, engine / base);
-        println!("| {} | {entries} | {nodes} | {:.2} | {:.2} | {:.2} |", number + 1, line.0, line.1, line.2);
+        let line = [engine.times(each), base.times(each), engine.divided_by(&base)];
+        let cells = line.each_ref().map(|runs| runs.shown(2)).join(" | ");
+        println!("| {} | {} | {} | {cells} |", number + 1, sample.columns.entries(), sample.nodes);
         all.push(line);
     }
-    let of = |part: fn(&(f64, f64, f64)) -> f64| measure::median(all.iter().map(part).collect());
-    println!("| median | | | {:.2} | {:.2} | {:.2} |\n", of(|line| line.0), of(|line| line.1), of(|line| line.2));
+    let medians = [0, 1, 2].map(|cell| Runs::new(all.iter().map(|line| line[cell].median()).collect()).median());
+    println!("| median | | | {:.2} | {:.2} | {:.2} |\n", medians[0], medians[1], medians[2]);
 }

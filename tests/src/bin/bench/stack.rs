@@ -7,6 +7,7 @@ use spp_tests::files::{self, Columns};
 use spp_tests::{engine, plain};
 
 const SIZE: usize = 64 << 20;
+const REPEATS: usize = 3;
 const PATTERN: u64 = 0xA5C3_96F0_1E2D_4B87;
 
 /// Room for the system's thread attributes; 56 bytes on x86-64 Linux.
@@ -60,23 +61,35 @@ fn used(start: Start, file: &Vec<u8>) -> usize {
     }
 }
 
-fn line(name: &str, columns: &Columns) {
+/// The most stack of some runs beyond what an idle thread uses, and how far the runs differ.
+fn most_used(start: Start, file: &Vec<u8>) -> (usize, usize) {
+    let runs = [0; REPEATS].map(|_| used(start, file) - used(nothing, file));
+    let (least, most) = (runs.into_iter().min().unwrap_or(0), runs.into_iter().max().unwrap_or(0));
+    (most, most - least)
+}
+
+/// Prints a line; gives how far its runs differ.
+fn line(name: &str, columns: &Columns) -> usize {
     let file = columns.file();
     let depth = plain::tree(&file, 1_000_000).expect("the file is accepted").deepest;
-    let empty = used(nothing, &file);
-    let engine = used(search_by_engine, &file) - empty;
-    let base = used(search_by_plain, &file) - empty;
+    let (engine, differ) = most_used(search_by_engine, &file);
+    let (base, base_differ) = most_used(search_by_plain, &file);
     let kib = |bytes: usize| bytes as f64 / 1024.0;
     println!("| {name} | {depth} | {:.0} | {:.0} | {:.0} |", kib(engine), engine as f64 / depth as f64, kib(base));
+    differ.max(base_differ)
 }
 
 pub fn table() {
+    eprintln!("bench: stack on the longest path");
     println!("## Stack on the longest path\n");
     println!("The most stack written to by one search, less what a thread uses that does nothing.\n");
     println!("| file | nodes on the longest path | engine, KiB | engine, bytes for each node on the path | (a), KiB |");
     println!("|---|---|---|---|---|");
-    line("one duty", &files::columns(1, &[(&[1], 5)]));
-    line("example 4", &files::example_4());
-    line("17 sailings, 256 duties of all sailings but one", &files::deepest());
-    println!();
+    let differ = [
+        line("one duty", &files::columns(1, &[(&[1], 5)])),
+        line("example 4", &files::example_4()),
+        line("17 sailings, 256 duties of all sailings but one", &files::deepest()),
+    ];
+    let most = differ.into_iter().max().unwrap_or(0);
+    println!("\nThe largest of {REPEATS} runs of each; the runs of one search differ by {most} bytes at most.\n");
 }
