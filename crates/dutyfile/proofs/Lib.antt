@@ -3,3 +3,4 @@ pub mod Entries
 pub mod Facts
 pub mod Columns
 pub mod Round
+pub mod Front

@@ -3,7 +3,7 @@ use refusals::Check;
 use refusals::Refusal;
 ghost use mathlib.Core.Path.{_≡_};
 ghost use Prim.Native.Nat.{_+_, _*_, _≤_};
-ghost use lib.ListN.{length, drop};
+ghost use lib.ListN.{length, drop, replicate};
 ghost use Rattle.refusals.specs.Refusals.{faultOf};
 ghost use Rattle.dutyfile.specs.File.{rowsIn, columnsIn, entryOf, bodiesAt};
 ghost use Rattle.dutyfile.specs.Faults.{columnFault, countsFault, entryFault, rising};
@@ -30,6 +30,13 @@ pub enum Contents {
     // The number of row numbers in all bodies, 01's t.
     Rows(usize),
     Failed(Refusal),
+}
+
+// 6,153 places for a file, one more than the longest has: enough to see that a file is too long.
+pub fn file_space() -> [u8; 6153]
+    ensures { λ r. ⌜ r ≡ replicate 6153 0 ⌝ }
+{
+    [0u8; 6153]
 }
 
 // The number of rows, 01's m.

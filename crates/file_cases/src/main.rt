@@ -76,7 +76,7 @@ fn show(file: &[u8]) {
 }
 
 fn show_line(name: &[u8], text: &[u8]) {
-    let mut file = hexadecimal::file_space();
+    let mut file = dutyfile::file_space();
     let n = hexadecimal::decode(text, &mut file);
     say(name);
     show(&file[0..n]);

@@ -1,7 +1,6 @@
 // Duty files as text, for the test programs: lines of words that are parted by spaces, the last of which is a file in hexadecimal.
-ghost use mathlib.Core.Path.{_≡_};
 ghost use Prim.Native.Nat.{_≤_, min};
-ghost use lib.ListN.{length, replicate};
+ghost use lib.ListN.{length};
 
 // The value of a hexadecimal digit, or 0.
 fn digit(b: u8) -> u8
@@ -53,11 +52,4 @@ pub fn find(s: &[u8], from: usize, b: u8) -> usize
         i += 1;
     }
     s.len()
-}
-
-// 6,153 places, which are enough to see that a file is too long.
-pub fn file_space() -> [u8; 6153]
-    ensures { λ r. ⌜ r ≡ replicate 6153 0 ⌝ }
-{
-    [0u8; 6153]
 }

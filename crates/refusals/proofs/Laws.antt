@@ -104,6 +104,12 @@ pub keeps : {A : Type 0} {o : Outcome A} (k : ℕ) (new old : List ℕ) → o �
 unfolding filled
 keeps k new old e = rw e
 
+-- later tests matter only where the former pass
+pub then-same : (a : Fault) {b c : Fault} → (a ≡ fine → b ≡ c) → (a then b) ≡ (a then c)
+unfolding _then_
+then-same fine e = e refl
+then-same (fault k) e = refl
+
 -- the answer matters only where the tests pass
 pub unless-same : {A : Type 0} (f : Fault) (a b : A) → (f ≡ fine → a ≡ b) → unless f a ≡ unless f b
 unfolding unless

@@ -45,7 +45,7 @@ fn number(text: &[u8]) -> u32 {
 }
 
 fn show_line(name: &[u8], limit: &[u8], text: &[u8]) {
-    let mut file = hexadecimal::file_space();
+    let mut file = dutyfile::file_space();
     let n = hexadecimal::decode(text, &mut file);
     say(name);
     say(limit);

@@ -1,9 +1,5 @@
 // Reads a duty file from standard input and prints what its search comes to, on one line.
-
-// 6,153 bytes are enough to see that a file is too long.
-fn file_space() -> [u8; 6153] {
-    [0u8; 6153]
-}
+ghost use Prim.Native.Nat.{_≤_};
 
 // Whether the input has ended.
 fn is_at_end() -> bool {
@@ -11,20 +7,28 @@ fn is_at_end() -> bool {
     libc::read(0, &mut next) == 0
 }
 
-// Searches with 01's allowance of the program, and room for the plan of any accepted file.
-fn solve(file: &[u8]) {
-    let mut plan = [0u16; 64];
-    report::report(file, 1000000, &mut plan);
+// Prints a text's first bytes.
+fn print(text: [u8; 128], size: usize)
+    requires { ⌜ size ≤ 128 ⌝ }
+{
+    io::write_all(1, &text[0..size]);
+}
+
+// Prints the line of a file.
+fn show(file: &[u8]) {
+    let mut text = [0u8; 128];
+    let size = report::program_line(file, &mut text);
+    print(text, size);
 }
 
 fn main() {
-    let mut file = file_space();
+    let mut file = dutyfile::file_space();
     let got = io::read_full(0, &mut file);
-    if got < 6153 {
+    if got < file.len() {
         if !is_at_end() {
             io::write_all(2, b"solve: standard input cannot be read to its end\n");
             return;
         }
     }
-    solve(&file[..got]);
+    show(&file[..got]);
 }
