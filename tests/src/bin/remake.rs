@@ -1,17 +1,16 @@
 //! Prints what the repository stores and `plain` works out anew (tests/src/stored):
 //!
-//!     cargo run --manifest-path tests/Cargo.toml --bin remake search_files
+//!     cargo run --release --manifest-path tests/Cargo.toml --bin remake search_files
 //!
 //! `file_cases`, `reduce_files`, `search_files` and `solve` print the output of the gate's program of that name, crates/NAME/stdout;
-//! `orders`, `cases` and `files` the values of that table in crates/rules/specs; `samples` the lines of the table in samples/README.md,
-//! without what is said of each sample.
+//! `orders`, `cases` and `files` the values of that table in crates/rules/specs; `samples` the lines of samples/lines.txt, by name.
 
 use std::process::ExitCode;
 
 use spp_tests::stored::{samples, tables, PROGRAMS};
 
 fn all_samples() -> Result<String, String> {
-    let lines: Result<Vec<String>, String> = samples::names()?.iter().map(|name| samples::remade(name)).collect();
+    let lines: Result<Vec<String>, String> = samples::names()?.iter().map(|name| samples::remade_line(name)).collect();
     Ok(lines?.join("\n") + "\n")
 }
 

@@ -3,6 +3,7 @@
 
 use spp_tests::files::{self, Columns};
 use spp_tests::second::{least_price, Least};
+use spp_tests::stored::samples::List;
 use spp_tests::stored::search_files::{self, Search};
 use spp_tests::stored::tables::{self, Place, Question};
 use spp_tests::stored::{input, samples, text, Program, PROGRAMS};
@@ -21,9 +22,9 @@ pub fn run(report: &mut Report) {
     for table in given(report, tables::tables()).unwrap_or_default() {
         table.places.iter().for_each(|place| table_place(report, table.file, place));
     }
-    report.group("samples: the lines of their table against (a), their bytes in the gate's input");
+    report.group("samples: what is stated of them against (a), their bytes in the gate's input");
     let searches = given(report, search_files::searches()).unwrap_or_default();
-    sample_lines(report);
+    samples::LISTS.iter().for_each(|list| sample_lines(report, list));
     sample_files(report, &searches);
     report.group("stored prices against the second solver");
     second_solver(report, &searches);
@@ -90,35 +91,36 @@ fn table_place(report: &mut Report, file: &str, place: &Place) {
     }
 }
 
-/// Each sample has a line in the table, and each line of the table is that of a sample.
-fn sample_lines(report: &mut Report) {
-    let read = samples::names().and_then(|names| Ok((names, samples::stored()?)));
+/// Each sample has one line in each list of samples/, and each line is that of a sample.
+fn sample_lines(report: &mut Report, list: &List) {
+    let read = samples::names().and_then(|names| Ok((names, list.stored()?)));
     let Some((names, stored)) = given(report, read) else { return };
     for name in &names {
         let count = stored.iter().filter(|line| line.name == *name).count();
-        report.same(&count, &1, || format!("{}: lines of {name}", samples::TABLE));
+        report.same(&count, &1, || format!("{}: lines of {name}", list.file));
     }
     for line in &stored {
-        if let Some(remade) = given(report, samples::remade(&line.name)) {
-            report.same(&line.text, &remade, || format!("{}, line {}", samples::TABLE, line.line));
+        if let Some(remade) = given(report, (list.remade)(&line.name)) {
+            report.same(&line.text, &remade, || line.place.clone());
         }
     }
 }
 
-/// Each sample stands in the gate's input under its name, and the examples are the paper's.
+/// A sample that stands in the gate's input under its name is the same there, and the examples are the paper's.
 fn sample_files(report: &mut Report, searches: &[Search]) {
+    let mut in_gate = 0;
     for name in given(report, samples::names()).unwrap_or_default() {
         let Some(file) = given(report, samples::file(&name)) else { continue };
         let front = name.trim_end_matches(".spp");
-        let in_gate: Vec<&Search> = searches.iter().filter(|search| search.name == front).collect();
-        report.holds(!in_gate.is_empty(), || format!("{}: has no line of samples/{name}", search_files::INPUT));
-        for search in in_gate {
+        for search in searches.iter().filter(|search| search.name == front) {
             report.same(&search.file, &file, || format!("{}: {front} and samples/{name}", search_files::INPUT));
+            in_gate += 1;
         }
         if let Some(example) = example(front) {
             report.same(&file, &example.file(), || format!("samples/{name} and the paper's example"));
         }
     }
+    report.holds(in_gate > 0, || format!("{}: has no sample", search_files::INPUT));
 }
 
 /// The searches of the gate's input that are not refused.

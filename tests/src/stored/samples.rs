@@ -1,32 +1,56 @@
-//! The table in samples/README.md: for each sample its numbers of sailings and duties and the line that the program prints for it.
+//! What samples/ states of each sample: the line that the program prints for it, and its numbers of sailings and duties.
 
 use std::fs;
 
 use super::{bytes, input, line, repository, text};
 use crate::plain;
 
-pub const TABLE: &str = "samples/README.md";
-
-/// The front of a line of the table, as it is stored, and its number in the file.
+/// What a file of samples/ states of a sample, and where.
 pub struct Stored {
-    pub line: usize,
+    pub place: String,
     pub name: String,
     pub text: String,
 }
 
-/// The lines of the table: | `NAME.spp` | sailings | duties | `line` | what it is |
-pub fn stored() -> Result<Vec<Stored>, String> {
-    let text = text(TABLE)?;
-    let row = |(number, line): (usize, &str)| {
-        let name = line.strip_prefix("| `")?.split_once('`')?.0.to_string();
-        let front: Vec<&str> = line.split_inclusive('|').take(5).collect();
-        Some(Stored { line: number + 1, name, text: front.concat() })
-    };
-    let rows: Vec<Stored> = text.lines().enumerate().filter_map(row).collect();
-    if rows.is_empty() {
-        return Err(format!("{TABLE}: has no line of a sample"));
+/// A file of samples/ that has a line for each sample.
+pub struct List {
+    pub file: &'static str,
+    /// The sample that a line is about, and what it states; none for other lines.
+    read: fn(&str) -> Option<(String, String)>,
+    /// What the line states, worked out anew.
+    pub remade: fn(&str) -> Result<String, String>,
+}
+
+pub const LISTS: [List; 2] = [
+    List { file: "samples/lines.txt", read: named_line, remade: remade_line },
+    List { file: "samples/README.md", read: table_line, remade: remade_sizes },
+];
+
+impl List {
+    pub fn stored(&self) -> Result<Vec<Stored>, String> {
+        let text = text(self.file)?;
+        let row = |(number, line): (usize, &str)| {
+            let (name, text) = (self.read)(line)?;
+            Some(Stored { place: format!("{}, line {}", self.file, number + 1), name, text })
+        };
+        let rows: Vec<Stored> = text.lines().enumerate().filter_map(row).collect();
+        if rows.is_empty() {
+            return Err(format!("{}: has no line of a sample", self.file));
+        }
+        Ok(rows)
     }
-    Ok(rows)
+}
+
+/// NAME and the program's line.
+fn named_line(line: &str) -> Option<(String, String)> {
+    Some((format!("{}.spp", line.split(' ').next()?), line.to_string()))
+}
+
+/// | `NAME.spp` | sailings | duties | what it is |
+fn table_line(line: &str) -> Option<(String, String)> {
+    let name = line.strip_prefix("| `")?.split_once('`')?.0.to_string();
+    let front: Vec<&str> = line.split_inclusive('|').take(4).collect();
+    Some((name, front.concat()))
 }
 
 /// The names of all samples, in the sequence of the alphabet.
@@ -46,10 +70,14 @@ pub fn file(name: &str) -> Result<Vec<u8>, String> {
     bytes(&format!("samples/{name}"))
 }
 
-/// The front of a sample's line in the table, worked out anew.
-pub fn remade(name: &str) -> Result<String, String> {
-    let file = file(name)?;
-    let columns = input::columns(&file).ok_or_else(|| format!("samples/{name}: is refused"))?;
-    let line = line::of(&plain::search(&file, 1_000_000, &mut [0; 64]));
-    Ok(format!("| `{name}` | {} | {} | `{line}` |", columns.rows, columns.costs.len()))
+/// A sample's line in samples/lines.txt.
+pub fn remade_line(name: &str) -> Result<String, String> {
+    let line = line::of(&plain::search(&file(name)?, 1_000_000, &mut [0; 64]));
+    Ok(format!("{} {line}", name.trim_end_matches(".spp")))
+}
+
+/// The front of a sample's line in the table of samples/README.md.
+fn remade_sizes(name: &str) -> Result<String, String> {
+    let columns = input::columns(&file(name)?).ok_or_else(|| format!("samples/{name}: is refused"))?;
+    Ok(format!("| `{name}` | {} | {} |", columns.rows, columns.costs.len()))
 }
