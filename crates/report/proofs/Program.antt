@@ -1,17 +1,32 @@
--- The program reads enough: the line of a file is that of its first 6,153 bytes, however long it is.
+-- The program's numbers are enough. Its node limit and places refuse no file that passes the tests of a file, and the line of a file is
+-- that of its first 6,153 bytes, however long it is.
 use mathlib.Core.Path.{_≡_, refl}
 use mathlib.Core.List.{List}
 use Prim.Native.Nat.{ℕ, _<_}
 use native.Mathlib.Omega.{arith}
+use borrow.Author.Tests.{le-leb}
 use lib.ListN.{take}
 use lib.Seq.{take-all}
 use Rattle.refusals.specs.Refusals.{Fault, fine, fault, _then_, unless}
+use Rattle.refusals.proofs.Laws.{passes}
 use Rattle.dutyfile.specs.File.{shape}
 use Rattle.dutyfile.specs.Faults.{fileFault}
+use Rattle.dutyfile.proofs.Facts.{all-pass, within-asks, file-fine}
 use Rattle.dutyfile.proofs.Front.{file-short, front-fault}
 use Rattle.answer.specs.Answer.{valuesOf}
 use Rattle.search.specs.Searching.{callFault, fileAnswer, searching}
 use Rattle.report.specs.Program.{programLine}
+
+-- the places are as many as rows can be, and the node limit is in its range
+pub file-refused : (s : List ℕ) → searching s 1000000 64 ≡ unless (fileFault s) (valuesOf (fileAnswer s 1000000))
+unfolding searching callFault shape _then_
+file-refused s = rw (go (fileFault s) refl)
+  where
+    go : (f : Fault) → fileFault s ≡ f → (f then callFault (shape s) 64 1000000) ≡ f
+    go fine e =
+        all-pass (passes 10 (le-leb _ _ (file-fine s e .walked .header .counts .rows .most)))
+        (within-asks 1 1000000 1000000 11 (record { least = omega arith; most = omega arith }))
+    go (fault k) e = refl
 
 -- a file that passes is its own front, and any other is refused by its front's fault
 front-searching : (k : ℕ) (s : List ℕ) (limit places : ℕ) → 6152 < k → searching (take k s) limit places ≡ searching s limit places
