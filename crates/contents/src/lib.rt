@@ -1,10 +1,12 @@
-// A reader of a file's contents: it holds the file and the number of the next entry. Its functions make it, move it and take it apart;
-// `read_entry`, whose parameters are plain, serves the loops that walk the contents.
+// A reader of a file's contents: it holds the file and the number of the next entry. `entries`, whose parameters
+// are plain, walks a file forward with it.
 use dutyfile::Entry;
 ghost use mathlib.Core.Path.{_≡_};
 ghost use Prim.Native.Nat.{_+_, _*_, _≤_};
-ghost use lib.ListN.{length, drop};
-ghost use Rattle.dutyfile.specs.File.{entryOf, bodiesAt};
+ghost use lib.ListN.{length, take, drop};
+ghost use Rattle.refusals.specs.Refusals.{fine};
+ghost use Rattle.dutyfile.specs.File.{columnsIn, bodiesAt, entryOf, entries};
+ghost use Rattle.dutyfile.specs.Faults.{headerFault};
 
 pub struct Reader<'a> {
     pub file: &'a [u8],
@@ -20,16 +22,6 @@ impl<'a> Reader<'a> {
         Reader { file, next: 0 }
     }
 
-    // In the same file, with another entry next.
-    pub fn moved(self, next: usize) -> Reader<'a>
-        ensures { λ r. ⌜ (r .file ≡ self .entry .file) × (r .next ≡ next) ⌝ }
-    {
-        Reader {
-            file: self.file,
-            next,
-        }
-    }
-
     // The next entry.
     pub fn entry(self) -> Entry
         requires { ⌜ (self .next ≤ 255) × (16 + 8 * self .next ≤ length (now (self .file))) ⌝ }
@@ -37,12 +29,38 @@ impl<'a> Reader<'a> {
     {
         dutyfile::entry_at(self.file, self.next)
     }
+
+    // In the same file, with the following entry next.
+    pub fn advanced(self) -> Reader<'a>
+        requires { ⌜ self .next ≤ 255 ⌝ }
+        ensures { λ r. ⌜ (r .file ≡ self .entry .file) × (r .next ≡ self .entry .next + 1) ⌝ }
+    {
+        Reader {
+            file: self.file,
+            next: self.next + 1,
+        }
+    }
 }
 
-// Entry j of a file, through the struct.
-pub fn read_entry(file: &[u8], j: usize) -> Entry
-    requires { ⌜ (j ≤ 255) × (16 + 8 * j ≤ length (now file)) ⌝ }
-    ensures { λ r. ⌜ r ≡ entryOf (drop (bodiesAt j) (now (file .entry))) ⌝ }
+// A table of 256 places.
+fn blank() -> [Entry; 256] {
+    [Entry {
+        cost: 0,
+        start: 0,
+        size: 0,
+    }; 256]
+}
+
+// The entries of a file with so many columns, at the front of a table. The file is walked forward, one entry after another.
+pub fn entries(file: &[u8], columns: usize) -> [Entry; 256]
+    requires { ⌜ (headerFault (now file) ≡ fine) × (columns ≡ columnsIn (now file)) ⌝ }
+    ensures { λ r. ⌜ take columns r ≡ entries (now (file .entry)) ⌝ }
 {
-    Reader::new(file).moved(j).entry()
+    let mut reader = Reader::new(file);
+    let mut table = blank();
+    while reader.next < columns {
+        table[reader.next] = reader.entry();
+        reader = reader.advanced();
+    }
+    table
 }

@@ -40,17 +40,18 @@ fn check_header(file: &[u8]) -> Check
     }
 }
 
-// Tests 4, 5, 6 and 7: the contents are walked forward, one entry after another.
+// Tests 4, 5, 6 and 7, for one entry after another.
 fn check_contents(file: &[u8]) -> Contents
     requires { ⌜ headerFault (now file) ≡ fine ⌝ }
     ensures { λ r. ⌜ contentsOutcome r ≡ unless (contentsFault (now (file .entry))) (sum (parse (now (file .entry)) .lengths)) ⌝ }
 {
     let rows = dutyfile::row_count(file);
     let columns = dutyfile::column_count(file);
+    let table = contents::entries(file, columns);
     let mut total = 0;
     let mut j = 0;
     while j < columns {
-        let e = contents::read_entry(file, j);
+        let e = table[j];
         let tested = dutyfile::check_entry(rows, columns, total, e);
         if let Check::Failed(why) = tested {
             return Contents::Failed(why);
@@ -70,9 +71,10 @@ fn check_bodies(file: &[u8]) -> Check
 {
     let rows = dutyfile::row_count(file);
     let columns = dutyfile::column_count(file);
+    let table = contents::entries(file, columns);
     let mut j = 0;
     while j < columns {
-        let e = contents::read_entry(file, j);
+        let e = table[j];
         let start = e.start as usize;
         let end = start + e.size as usize;
         if !dutyfile::is_rising(&file[start..end], rows) {

@@ -20,9 +20,10 @@ fn fill_columns(file: &[u8], costs: &mut [u32], lengths: &mut [u16])
     ensures { λ _. ⌜ now (lengths .exit) ≡ front (parse (now (file .entry)) .lengths) (now (lengths .entry)) ⌝ }
 {
     let columns = dutyfile::column_count(file);
+    let table = contents::entries(file, columns);
     let mut k = 0;
     while k < columns {
-        let e = contents::read_entry(file, k);
+        let e = table[k];
         costs[k] = e.cost;
         lengths[k] = e.size;
         k += 1;

@@ -1,19 +1,25 @@
 -- The entries that are left, with the rows so far, come to what the whole contents come to.
+use mathlib.Core.Path.{_≡_}
+use mathlib.Core.List.{[]}
 use Prim.Native.Nat.{_+_, _-_}
 use native.Mathlib.Omega.{arith}
+use lib.ListN.{getD, drop}
 use borrow.Author.Needs.{needs}
 use Rattle.refusals.proofs.Laws.{failed, passed}
 use Rattle.dutyfile.proofs.Facts.{header-fine}
 use Rattle.dutyfile.specs.Answer.{contentsOutcome}
+use Rattle.dutyfile.specs.File.{bodiesAt, entryOf}
+use Rattle.dutyfile.specs.declared.Entry.{Entry}
+use Rattle.contents.proofs.Table.{table-at}
 use Rattle.examine.proofs.Entries.{Walking, walking-start, walking-stop, walking-next, walking-end}
 use Rattle.examine.proofs.check_contents.Statement.{statement}
 use Rattle.examine.proofs.check_contents.Tie as tie
 
 abbrev Inv-loop : tie.InvT-loop
-Inv-loop file rows columns total₀ j₀ total j = Walking file rows columns total j
+Inv-loop file rows columns table total₀ j₀ total j = Walking file rows columns total j
 
 abbrev μ-loop : tie.MeasureT-loop
-μ-loop file rows columns total₀ j₀ total j = columns - j
+μ-loop file rows columns table total₀ j₀ total j = columns - j
 
 row-count-requires : tie.Need-row-count-requires Inv-loop μ-loop
 row-count-requires c κs = header-fine _ (c .before .pre) .long
@@ -21,13 +27,24 @@ row-count-requires c κs = header-fine _ (c .before .pre) .long
 column-count-requires : tie.Need-column-count-requires Inv-loop μ-loop
 column-count-requires c κs = header-fine _ (c .before .before .pre) .long
 
-loop-holds : tie.Need-loop-holds Inv-loop μ-loop
-loop-holds c = walking-start _ _ _ (c .before .before .before .pre) (c .before .row-count .ensures) (c .column-count .ensures)
+entries-requires : tie.Need-entries-requires Inv-loop μ-loop
+entries-requires c κs = (c .before .before .before .pre, c .column-count .ensures)
 
-read-entry-requires : tie.Need-read-entry-requires Inv-loop μ-loop
-read-entry-requires c κs =
+loop-holds : tie.Need-loop-holds Inv-loop μ-loop
+loop-holds c = walking-start _ _ _ (c .before .before .before .before .pre) (c .before .before .row-count .ensures) (c .before .column-count .ensures)
+
+array-copy-out-e : tie.Need-array-copy-out-e Inv-loop μ-loop
+array-copy-out-e c =
     let w = c .before .loop .inv in
-    omega (arith, w .header .contents, w .header .counts .columns .most, w .columns-is)
+    omega (arith, w .header .counts .columns .most, w .columns-is)
+
+mul-e : tie.Need-mul-e Inv-loop μ-loop
+mul-e c = omega (arith, array-copy-out-e c)
+
+-- the place of the table that was read
+read : (c : tie.In-loop Inv-loop μ-loop) (d : Entry) →
+    getD (c .before .before .entries .result) (c .before .loop .j) d ≡ entryOf (drop (bodiesAt (c .before .loop .j)) (c .before .before .before .before .before .before .args .file .now))
+read c d = table-at _ _ _ (c .before .loop .inv .columns-is) (c .before .before .entries .ensures) _ d (c .loop-test .taken)
 
 check-entry-requires : tie.Need-check-entry-requires Inv-loop μ-loop
 check-entry-requires c κs =
@@ -42,22 +59,23 @@ unfolding contentsOutcome
 returns c =
     let tested = c .before .before .before in
     let l = tested .before .before in
-    walking-stop _ _ _ _ _ (l .before .loop .inv) (l .loop-test .taken) _ (tested .before .read-entry .ensures) _
+    walking-stop _ _ _ _ _ (l .before .loop .inv) (l .loop-test .taken) _ (read l _) _
     (failed (tested .check-entry .ensures) _ (c .before .tested .given .1))
 
 enum-told : tie.Need-enum-told Inv-loop μ-loop
 enum-told c = search needs
 
 next : (c : tie.After-struct-known Inv-loop μ-loop) →
-    Walking (c .before .before .before .before .before .before .before .before .before .before .args .file .now)
-    (c .before .before .before .before .before .before .before .before .row-count .result)
-    (c .before .before .before .before .before .before .before .column-count .result)
-    (c .before .before .before .before .before .before .loop .total + c .before .before .before .before .read-entry .result .size)
+    Walking (c .before .before .before .before .before .before .before .before .before .before .before .args .file .now)
+    (c .before .before .before .before .before .before .before .before .before .row-count .result)
+    (c .before .before .before .before .before .before .before .before .column-count .result)
+    (c .before .before .before .before .before .before .loop .total
+    + getD (c .before .before .before .before .before .before .before .entries .result) (c .before .before .before .before .before .before .loop .j) (entryOf []) .size)
     (c .before .before .before .before .before .before .loop .j + 1)
 next c =
     let tested = c .before .before .before in
     let l = tested .before .before in
-    walking-next _ _ _ _ _ (l .before .loop .inv) (l .loop-test .taken) _ (tested .before .read-entry .ensures)
+    walking-next _ _ _ _ _ (l .before .loop .inv) (l .loop-test .taken) _ (read l _)
     (passed (tested .check-entry .ensures) (c .before .enum-told .given .1))
 
 cast-total : tie.Need-cast-total Inv-loop μ-loop
@@ -87,8 +105,10 @@ check-contents-spec =
     μ-loop
     row-count-requires
     column-count-requires
+    entries-requires
     loop-holds
-    read-entry-requires
+    mul-e
+    array-copy-out-e
     check-entry-requires
     enum-known-tested
     returns

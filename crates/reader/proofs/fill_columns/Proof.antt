@@ -3,30 +3,37 @@ use Prim.Native.Nat.{_-_}
 use native.Mathlib.Omega.{arith}
 use Rattle.dutyfile.specs.File.{costOf, sizeOf, parse}
 use Rattle.dutyfile.proofs.Facts.{header-fine}
+use Rattle.contents.proofs.Table.{table-at}
 use Rattle.reader.proofs.Filled.{Filling, filling-start, filling-next, filling-end}
 use Rattle.reader.proofs.fill_columns.Statement.{statement}
 use Rattle.reader.proofs.fill_columns.Tie as tie
 
 abbrev Inv-loop : tie.InvT-loop
-Inv-loop file costs₀ lengths₀ columns k₀ costs lengths k =
+Inv-loop file costs₀ lengths₀ columns table k₀ costs lengths k =
     Filling costOf file costs₀ columns costs k × Filling sizeOf file lengths₀ columns lengths k
 
 abbrev μ-loop : tie.MeasureT-loop
-μ-loop file costs₀ lengths₀ columns k₀ costs lengths k = columns - k
+μ-loop file costs₀ lengths₀ columns table k₀ costs lengths k = columns - k
 
 column-count-requires : tie.Need-column-count-requires Inv-loop μ-loop
 column-count-requires c κs = header-fine _ (c .before .before .before .pre .0) .long
 
+entries-requires : tie.Need-entries-requires Inv-loop μ-loop
+entries-requires c κs = (c .before .before .before .before .pre .0, c .column-count .ensures)
+
 loop-holds : tie.Need-loop-holds Inv-loop μ-loop
 loop-holds c =
-    let p = c .before .before .before .before .pre in
-    let n = c .column-count .ensures in
+    let p = c .before .before .before .before .before .pre in
+    let n = c .before .column-count .ensures in
     (filling-start costOf _ _ _ (p .0) (p .1 .0) n, filling-start sizeOf _ _ _ (p .0) (p .1 .1) n)
 
-read-entry-requires : tie.Need-read-entry-requires Inv-loop μ-loop
-read-entry-requires c κs =
+array-copy-out-e : tie.Need-array-copy-out-e Inv-loop μ-loop
+array-copy-out-e c =
     let w = c .before .loop .inv .0 in
-    omega (arith, w .header .contents, w .header .counts .columns .most, w .columns-is)
+    omega (arith, w .header .counts .columns .most, w .columns-is)
+
+mul-e : tie.Need-mul-e Inv-loop μ-loop
+mul-e c = omega (arith, array-copy-out-e c)
 
 mul-costs : tie.Need-mul-costs Inv-loop μ-loop
 mul-costs c = omega arith
@@ -49,10 +56,9 @@ loop-less c = omega arith
 loop-again : tie.Need-loop-again Inv-loop μ-loop
 loop-again c =
     let l = c .before in
-    let w = l .before .loop .inv in (
-      filling-next costOf _ _ _ _ _ (w .0) (l .loop-test .taken) _ (c .read-entry .ensures),
-      filling-next sizeOf _ _ _ _ _ (w .1) (l .loop-test .taken) _ (c .read-entry .ensures),
-    )
+    let w = l .before .loop .inv in
+    let is = table-at _ _ _ (w .0 .columns-is) (l .before .before .entries .ensures) _ _ (l .loop-test .taken) in
+    (filling-next costOf _ _ _ _ _ (w .0) (l .loop-test .taken) _ is, filling-next sizeOf _ _ _ _ _ (w .1) (l .loop-test .taken) _ is)
 
 same-length : tie.Need-same-length Inv-loop μ-loop
 same-length c = omega arith
@@ -73,8 +79,10 @@ fill-columns-spec =
     Inv-loop
     μ-loop
     column-count-requires
+    entries-requires
     loop-holds
-    read-entry-requires
+    mul-e
+    array-copy-out-e
     mul-costs
     slice-write-costs
     mul-lengths
