@@ -7,7 +7,6 @@ use rules::Asked;
 use rules::Forced;
 ghost use mathlib.Core.Path.{_≡_};
 ghost use mathlib.Core.List.{[]};
-ghost use Prim.Native.Nat.{min};
 ghost use lib.ListN.{length};
 ghost use Rattle.node.specs.Lists.{first};
 ghost use Rattle.node.specs.View.{view};
@@ -17,10 +16,10 @@ ghost use Rattle.rules.specs.Tree.{joined};
 ghost use Rattle.rules.proofs.Costs.{Workable};
 ghost use Rattle.forcing.specs.Rows.{freeIn, asksBy, sooner};
 
-// How many of some columns are free, counted up to 2.
+// How many of some columns are free.
 fn free_count(column: &[u8; 256], columns: &[u16]) -> usize
     requires { ⌜ Columns (now columns) ⌝ }
-    ensures { λ r. ⌜ r ≡ min (length (freeIn (now (column .entry)) (now (columns .entry)))) 2 ⌝ }
+    ensures { λ r. ⌜ r ≡ length (freeIn (now (column .entry)) (now (columns .entry))) ⌝ }
 {
     let mut n = 0;
     let mut k = 0;
@@ -28,9 +27,6 @@ fn free_count(column: &[u8; 256], columns: &[u16]) -> usize
         let j = columns[k] as usize;
         k += 1;
         if column[j] == 1 {
-            if n == 1 {
-                return 2;
-            }
             n += 1;
         }
     }
@@ -65,8 +61,7 @@ fn columns_ask(column: &[u8; 256], columns: &[u16]) -> Asked
             let j = first_free(column, columns);
             Asked::Take(j)
         }
-        2..=256 => Asked::Settled,
-        _ => Asked::Settled,
+        2.. => Asked::Settled,
     }
 }
 
