@@ -112,28 +112,27 @@ pub fn open_rows_ask<'a>(column: &'a [u8; 256], row: &'a [u8; 64], matrix: &[u16
 }
 
 // Takes what is forced until nothing is.
-pub fn force(s: Node, matrix: &[u16]) -> Forced
+pub fn force(mut s: Node, matrix: &[u16]) -> Forced
     requires { ⌜ Workable (now matrix) s ⌝ }
     ensures { λ r. ⌜ r ≡ force joined (matrixIn (now (matrix .entry))) s ⌝ }
 {
-    let mut n = s;
     loop {
-        let found = open_rows_ask(&n.column, &n.row, matrix);
+        let found = open_rows_ask(&s.column, &s.row, matrix);
         match found {
             Asked::Dead => {
                 return Forced {
-                    node: n,
+                    node: s,
                     alive: false,
                 };
             }
             Asked::Settled => {
                 return Forced {
-                    node: n,
+                    node: s,
                     alive: true,
                 };
             }
             Asked::Take(j) => {
-                n = n.take(j, matrix);
+                s = s.take(j, matrix);
             }
         }
     }
