@@ -47,11 +47,11 @@ abbrev step : List ℕ → List ℕ → List ℕ → Candidate → ℕ → Candi
 step l cost column b x = better b (candidate (matrixIn l) (view cost column []) x)
 
 -- at row i of a pass over the rows marked, with the marks that are left
-pub record Choosing (l cost column row : List ℕ) (rows : ℕ) (left : List ℕ) (best : Candidate) (i : ℕ) : Type 0 where
+pub record Choosing (l cost column row left : List ℕ) (rows : ℕ) (best : Candidate) (i : ℕ) : Type 0 where
   pub pass : Passing (step l cost column) (bestOf (matrixIn l) (view cost column row)) l (view cost column left) rows best i
   pub same : candidates (matrixIn l) (view cost column left) ≡ candidates (matrixIn l) (view cost column row)
 
-pub choosing-start : (l cost column row : List ℕ) (rows : ℕ) → Kept l → rows ≡ matrixIn l .rows → Choosing l cost column row rows row none 0
+pub choosing-start : (l cost column row : List ℕ) (rows : ℕ) → Kept l → rows ≡ matrixIn l .rows → Choosing l cost column row row rows none 0
 unfolding candidate leastOf freeOf freeColumns
 choosing-start l cost column row rows k e = record {
   pass = passing-start _ _ l (view cost column row) rows none k e (best-is (matrixIn l) (view cost column row));
@@ -63,9 +63,8 @@ rest-same : (row : List ℕ) (i n : ℕ) →
     keep (λ k. eqb (getD (set row i 0) k 0) 1) (from n (i + 1)) ≡ keep (λ k. eqb (getD row k 0) 1) (from n (i + 1))
 rest-same row i n = keep-cong _ _ (from n (i + 1)) (λ k m. mark-other row i k (λ e. omega (arith, from-high n (i + 1) k m)))
 
-module _ (l cost column row : List ℕ) (rows : ℕ) (left : List ℕ) (best : Candidate) (i : ℕ) (w : Choosing l cost column row rows left best i)
-    where
-  pub choosing-closed : i < rows → (getD left i 0 ≡ 1 → ⊥) → Choosing l cost column row rows left best (i + 1)
+module _ (l cost column row left : List ℕ) (rows : ℕ) (best : Candidate) (i : ℕ) (w : Choosing l cost column row left rows best i) where
+  pub choosing-closed : i < rows → (getD left i 0 ≡ 1 → ⊥) → Choosing l cost column row left rows best (i + 1)
   choosing-closed inside h = record { pass = passing-closed (w .pass) inside h; same = w .same }
 
   pub choosing-end : rows ≤ i → Chooses (matrixIn l) cost column row left best
@@ -73,12 +72,12 @@ module _ (l cost column row : List ℕ) (rows : ℕ) (left : List ℕ) (best : C
 
   module _ (inside : i < rows) (h : getD left i 0 ≡ 1) where
     pub choosing-open : (found next : Candidate) → found ≡ candidate (matrixIn l) (view cost column []) i → next ≡ better best found →
-        Choosing l cost column row rows left next (i + 1)
+        Choosing l cost column row left rows next (i + 1)
     choosing-open found next told is = record { pass = passing-open (w .pass) inside h next (is ∙ rw told); same = w .same }
 
     -- a row with a free column at cost 0 is passed over, and closed
     pub choosing-zero : (js : List ℕ) → js ≡ rowColumns (matrixIn l) i → true ≡ hasZero cost column js →
-        Choosing l cost column row rows (set left i 0) best (i + 1)
+        Choosing l cost column row (set left i 0) rows best (i + 1)
     unfolding ahead candidate
     choosing-zero js is z =
         let e : eqb (candidate (matrixIn l) (view cost column []) i .cost) 0 ≡ true = eq-eqb _ 0 (zero-least (matrixIn l) cost column [] js i is z) in

@@ -1,7 +1,7 @@
 -- A row whose least present cost is 0 is no candidate, so the candidates stay when its mark goes. Costs that fall make no row a candidate, so
 -- tables of rows with the same candidates have the same ones afterwards.
 use mathlib.Core.Path.{_≡_, ap, sym, _∙_}
-use mathlib.Core.Bool.{Bool, true, false, false≢true}
+use mathlib.Core.Bool.{Bool, false, false≢true}
 use mathlib.Core.List.{List, []}
 use Prim.Native.Nat.{ℕ, _≤_}
 use native.Mathlib.Omega.{arith}

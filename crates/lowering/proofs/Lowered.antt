@@ -1,8 +1,7 @@
 -- The step: the table that all columns of a row give has the amount off the cost of each free one.
 use mathlib.Core.Path.{_≡_, refl, sym, _∙_}
-use mathlib.Core.Bool.{Bool, true, false, cond, _&&_, _||_, and-false, false≢true}
+use mathlib.Core.Bool.{Bool, true, false, cond, _&&_, _||_, and-false}
 use mathlib.Core.List.{List, [], _∷_}
-use mathlib.Core.Logic.{⊎-elim}
 use Prim.Native.Nat.{ℕ, zero, suc, _+_, _-_, _≤_, _<_}
 use native.Mathlib.Nat.{sub-zero}
 use native.Mathlib.Omega.{arith}
@@ -16,7 +15,7 @@ use Rattle.node.specs.Lists.{member, keep, from, upto, on}
 use Rattle.node.specs.Passes.{carry}
 use Rattle.node.specs.Matrix.{Matrix, width, covers}
 use Rattle.node.specs.Stored.{rowColumns, FitsNode}
-use Rattle.node.proofs.Members.{least-mono, kept, member-at, member-cases, length-from}
+use Rattle.node.proofs.Members.{least-mono, kept, member-at, length-from}
 use Rattle.node.proofs.Passes.{Carrying, carrying-start, carrying-next, carrying-end}
 use Rattle.node.specs.View.{view}
 use Rattle.node.specs.Node.{isFree, costAt, freeColumns, freeOf}

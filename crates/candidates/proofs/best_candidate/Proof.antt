@@ -11,7 +11,7 @@ use Rattle.candidates.proofs.best_candidate.Statement.{statement}
 use Rattle.candidates.proofs.best_candidate.Tie as tie
 
 abbrev Inv-loop : tie.InvT-loop
-Inv-loop cost column row₀ matrix rows best₀ i₀ row best i = Choosing matrix cost column row₀ rows row best i
+Inv-loop cost column row₀ matrix rows best₀ i₀ row best i = Choosing matrix cost column row₀ row rows best i
 
 abbrev μ-loop : tie.MeasureT-loop
 μ-loop cost column row₀ matrix rows best₀ i₀ row best i = rows - i
