@@ -13,7 +13,7 @@ ghost use Rattle.rules.specs.Reduce.{candidate};
 ghost use Rattle.node.specs.Stored.{matrixIn, Kept, HasRow, Columns};
 ghost use Rattle.node.specs.View.{view};
 ghost use Rattle.candidates.specs.Row.{joined, tallyIn, Listed};
-ghost use Rattle.candidates.specs.Best.{better, bestOf, hasZero};
+ghost use Rattle.candidates.specs.Best.{better, hasZero, Chooses};
 
 // The statistics with one more free column, of a cost and a number of rows.
 fn join(a: Candidate, cost: u32, size: u32) -> Candidate
@@ -146,15 +146,16 @@ fn has_zero(cost: &[u32; 256], column: &[u8; 256], columns: &[u16]) -> bool
     false
 }
 
-// The row that the next reducing step uses, in one pass over the open rows; its cost is 0 where there is no candidate.
+// The row that the next reducing step uses, in one pass over the rows marked; its cost is 0 where there is no candidate. A row with a
+// free column at cost 0 loses its mark: it is no candidate, nor will it be while costs only fall.
 pub fn best_candidate<'a>(
     cost: &'a [u32; 256],
     column: &'a [u8; 256],
-    row: &'a [u8; 64],
+    row: &mut [u8; 64],
     matrix: &[u16],
 ) -> Candidate
     requires { ⌜ Kept (now matrix) ⌝ }
-    ensures { λ r. ⌜ r ≡ bestOf (matrixIn (now (matrix .entry))) (view (now (cost .entry)) (now (column .entry)) (now (row .entry))) ⌝ }
+    ensures { λ r. ⌜ Chooses (matrixIn (now (matrix .entry))) (now (cost .entry)) (now (column .entry)) (now (row .entry)) (now (row .exit)) r ⌝ }
 {
     let rows = row_count(matrix);
     let mut best = Candidate {
@@ -170,7 +171,9 @@ pub fn best_candidate<'a>(
         i += 1;
         if row[at] == 1 {
             let columns = row_part(matrix, at);
-            if !has_zero(cost, column, columns) {
+            if has_zero(cost, column, columns) {
+                row[at] = 0;
+            } else {
                 let found = row_candidate(cost, column, matrix, at);
                 best = better_of(best, found);
             }

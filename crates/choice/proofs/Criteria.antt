@@ -1,10 +1,12 @@
 -- The criteria in turn: the first in which two rows differ decides. A penalty is equal to another where their numbers are.
 use mathlib.Core.Path.{_≡_, refl, sym, _∙_}
 use mathlib.Core.Bool.{Bool, true, false}
-use Prim.Native.Nat.{ℕ, zero, suc}
+use Prim.Native.Nat.{ℕ, zero, suc, _<_}
 use native.Mathlib.Omega.{arith}
 use lib.Dec.{eqb, ltb}
 use borrow.Author.Tests.{eq-eqb, ne-eqb, le-ltb}
+use Rattle.node.specs.Passes.{better}
+use Rattle.node.proofs.Passes.{better-not}
 use Rattle.rules.specs.Reduce.{byOrder}
 use Rattle.rules.specs.Tree.{aboveP, sameP}
 use Rattle.criteria.proofs.Criteria.{decides, ties-up}
@@ -55,6 +57,10 @@ module _ (a b : BranchRow) where
   pub by-zeros : (a .zeros ≡ b .zeros → ⊥) → ltb (a .zeros) (b .zeros) ≡ precedes a b
   unfolding precedes
   by-zeros n = sym (decides _ (a .zeros) (b .zeros) _ n)
+
+  -- a row with more columns at cost 0 gives way
+  pub stays-best : b .zeros < a .zeros → b ≡ better precedes b a
+  stays-best h = better-not precedes b a _ (by-zeros (λ e. omega arith)) (le-ltb (a .zeros) (b .zeros) (omega arith))
 
   module _ (z : a .zeros ≡ b .zeros) where
     pub by-penalty : (a .penalty ≡ b .penalty → ⊥) → aboveP (penaltyAt (a .penalty)) (penaltyAt (b .penalty)) ≡ precedes a b

@@ -1,5 +1,5 @@
 -- The choice of the row: the open rows that are left, looked at one by one, give the row that is picked from all open rows.
-use mathlib.Core.Path.{_≡_, refl, _∙_}
+use mathlib.Core.Path.{_≡_, refl, ap, _∙_}
 use mathlib.Core.List.{List, []}
 use Prim.Native.Nat.{ℕ, _+_, _<_}
 use lib.ListN.{getD}
@@ -32,8 +32,7 @@ unfolding branchRow zeros penalty dearer freeOf freeColumns
 same-row p cost column row i = refl
 
 pub choosing-open : (l cost column row : List ℕ) (rows : ℕ) (best : BranchRow) (i : ℕ) → Choosing l (view cost column row) rows best i → i < rows →
-    getD row i 0 ≡ 1 → (found next : BranchRow) → found ≡ branchRow (matrixIn l) (view cost column []) i →
-    next ≡ better precedes best found → Choosing l (view cost column row) rows next (i + 1)
-choosing-open l cost column row rows best i w inside h found next told is =
-    let c : found ≡ branchRow (matrixIn l) (view cost column row) i = told ∙ same-row (matrixIn l) cost column row i in
-    passing-open w inside h next (is ∙ rw c)
+    getD row i 0 ≡ 1 → (next : BranchRow) → next ≡ better precedes best (branchRow (matrixIn l) (view cost column []) i) →
+    Choosing l (view cost column row) rows next (i + 1)
+choosing-open l cost column row rows best i w inside h next is =
+    passing-open w inside h next (is ∙ ap (better precedes best) (same-row (matrixIn l) cost column row i))

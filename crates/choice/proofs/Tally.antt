@@ -1,15 +1,15 @@
 -- A row's statistics: with one more free column they are those of the columns so far with that column joined.
-use mathlib.Core.Path.{_≡_, refl, sym}
+use mathlib.Core.Path.{_≡_, refl, ap, sym, _∙_}
 use mathlib.Core.Bool.{Bool, true, false}
 use mathlib.Core.List.{List, [], _∷_, _++_}
 use Prim.Native.Nat.{ℕ, _+_, _≤_, _<_}
 use native.Mathlib.Omega.{arith}
-use lib.ListN.{length, getD, take, length-append}
+use lib.ListN.{length, getD, take, drop, length-append, take-append-drop}
 use lib.Dec.{eqb, ltb}
 use borrow.Author.Tests.{eq-eqb, ne-eqb, lt-ltb, le-ltb, ltb-true, eqb-true, eqb-false}
 use Rattle.node.specs.Lists.{keep, member, least, leastFrom}
 use Rattle.node.proofs.Members.{kept, least-at, keep-short}
-use Rattle.node.proofs.Loops.{keep-more, keep-same}
+use Rattle.node.proofs.Loops.{keep-append, keep-more, keep-same}
 use Rattle.node.proofs.Passes.{Telling, telling-start, telling-few, telling-in, telling-out, telling-end}
 use Rattle.candidates.proofs.Keep.{least-more}
 use Rattle.choice.specs.declared.BranchRow.{BranchRow}
@@ -102,6 +102,18 @@ module _ (cost column row : List ℕ) (i : ℕ) (found : BranchRow) (k : ℕ) (w
 
     pub tallying-other : (getD column (getD row k 0) 0 ≡ 1 → ⊥) → Tallying cost column row i found (k + 1)
     tallying-other h = record { so-far = telling-out _ _ row found k (w .so-far) inside (ne-eqb _ 1 h) }
+
+  -- no column takes a column at cost 0 away
+  pub tallying-zeros : found .zeros ≤ tallyIn cost column row i .zeros
+  unfolding tally
+  tallying-zeros =
+      let z : ℕ → Bool = λ j. eqb (getD cost j 0) 0 in
+      let t : ℕ → Bool = λ j. eqb (getD column j 0) 1 in
+      let e : keep t row ≡ keep t (take k row) ++ keep t (drop k row) =
+      ap (keep t) (sym (take-append-drop k row)) ∙ keep-append t (take k row) (drop k row) in
+      let n : length (keep z (keep t row)) ≡ length (keep z (keep t (take k row))) + length (keep z (keep t (drop k row))) =
+      rw (e, keep-append z (keep t (take k row)) (keep t (drop k row)), length-append (keep z (keep t (take k row))) (keep z (keep t (drop k row)))) in
+      rw (w .so-far .is) (omega arith)
 
   pub tallying-end : length row ≤ k → found ≡ tallyIn cost column row i
   tallying-end h = telling-end _ _ row found k (w .so-far) h

@@ -5,6 +5,7 @@ ghost use mathlib.Core.Path.{_≡_};
 ghost use mathlib.Core.List.{[]};
 ghost use Prim.Native.Nat.{_+_, _≤_, _<_};
 ghost use lib.ListN.{length};
+ghost use Rattle.node.specs.Passes.{better};
 ghost use Rattle.rules.specs.Tree.{aboveP};
 ghost use Rattle.node.specs.Stored.{matrixIn, Kept, HasRow, Columns};
 ghost use Rattle.node.specs.View.{view};
@@ -57,37 +58,6 @@ fn join(a: BranchRow, cost: u32) -> BranchRow
     }
 }
 
-// The statistics of row i, in one pass over its columns.
-fn statistics(cost: &[u32; 256], column: &[u8; 256], row: &[u16], i: u32) -> BranchRow
-    requires { ⌜ Columns (now row) × (length (now row) ≤ 4096) ⌝ }
-    ensures { λ r. ⌜ r ≡ tallyIn (now (cost .entry)) (now (column .entry)) (now (row .entry)) i ⌝ }
-{
-    let mut found = BranchRow {
-        zeros: 0,
-        penalty: 0,
-        free: 0,
-        row: i,
-    };
-    let mut k = 0;
-    while k < row.len() {
-        let j = row[k] as usize;
-        k += 1;
-        if column[j] == 1 {
-            found = join(found, cost[j]);
-        }
-    }
-    found
-}
-
-// What the choice looks at in a row of a matrix.
-fn row_statistics(cost: &[u32; 256], column: &[u8; 256], matrix: &[u16], i: usize) -> BranchRow
-    requires { ⌜ HasRow (now matrix) i ⌝ }
-    ensures { λ r. ⌜ r ≡ branchRow (matrixIn (now (matrix .entry))) (view (now (cost .entry)) (now (column .entry)) []) i ⌝ }
-{
-    let row = row_part(matrix, i);
-    statistics(cost, column, row, i as u32)
-}
-
 // Whether penalty a is above penalty b.
 fn is_above(a: u32, b: u32) -> bool
     ensures { λ r. ⌜ r ≡ aboveP (penaltyAt a) (penaltyAt b) ⌝ }
@@ -117,6 +87,56 @@ pub fn row_precedes(a: BranchRow, b: BranchRow) -> bool
     a.row < b.row
 }
 
+// The better of the best row so far and row i, in one pass over its columns. The row is left once more of them are at cost 0 than the
+// best row has.
+fn better_of(
+    cost: &[u32; 256],
+    column: &[u8; 256],
+    row: &[u16],
+    i: u32,
+    best: BranchRow,
+) -> BranchRow
+    requires { ⌜ Columns (now row) × (length (now row) ≤ 4096) ⌝ }
+    ensures { λ r. ⌜ r ≡ better precedes best (tallyIn (now (cost .entry)) (now (column .entry)) (now (row .entry)) i) ⌝ }
+{
+    let mut found = BranchRow {
+        zeros: 0,
+        penalty: 0,
+        free: 0,
+        row: i,
+    };
+    let mut k = 0;
+    while k < row.len() {
+        let j = row[k] as usize;
+        k += 1;
+        if column[j] == 1 {
+            found = join(found, cost[j]);
+            if best.zeros < found.zeros {
+                return best;
+            }
+        }
+    }
+    if row_precedes(found, best) {
+        return found;
+    }
+    best
+}
+
+// The better of the best row so far and row i of a matrix.
+fn better_row(
+    cost: &[u32; 256],
+    column: &[u8; 256],
+    matrix: &[u16],
+    i: usize,
+    best: BranchRow,
+) -> BranchRow
+    requires { ⌜ HasRow (now matrix) i ⌝ }
+    ensures { λ r. ⌜ r ≡ better precedes best (branchRow (matrixIn (now (matrix .entry))) (view (now (cost .entry)) (now (column .entry)) []) i) ⌝ }
+{
+    let row = row_part(matrix, i);
+    better_of(cost, column, row, i as u32, best)
+}
+
 // The row to branch on, in one pass over the open rows. Where no row is open it has 257 columns at cost 0, which no row has.
 pub fn branch_row<'a>(
     cost: &'a [u32; 256],
@@ -139,10 +159,7 @@ pub fn branch_row<'a>(
         let at = i;
         i += 1;
         if row[at] == 1 {
-            let found = row_statistics(cost, column, matrix, at);
-            if row_precedes(found, best) {
-                best = found;
-            }
+            best = better_row(cost, column, matrix, at, best);
         }
     }
     best

@@ -7,7 +7,6 @@ use rules::Asked;
 use rules::Forced;
 ghost use mathlib.Core.Path.{_≡_};
 ghost use mathlib.Core.List.{[]};
-ghost use Prim.Native.Nat.{min};
 ghost use lib.ListN.{length};
 ghost use Rattle.node.specs.Lists.{first};
 ghost use Rattle.node.specs.View.{view};
@@ -17,10 +16,10 @@ ghost use Rattle.rules.specs.Tree.{joined};
 ghost use Rattle.rules.proofs.Costs.{Workable};
 ghost use Rattle.forcing.specs.Rows.{freeIn, asksBy, sooner};
 
-// How many of some columns are free, counted up to 2.
+// How many of some columns are free.
 fn free_count(column: &[u8; 256], columns: &[u16]) -> usize
     requires { ⌜ Columns (now columns) ⌝ }
-    ensures { λ r. ⌜ r ≡ min (length (freeIn (now (column .entry)) (now (columns .entry)))) 2 ⌝ }
+    ensures { λ r. ⌜ r ≡ length (freeIn (now (column .entry)) (now (columns .entry))) ⌝ }
 {
     let mut n = 0;
     let mut k = 0;
@@ -28,9 +27,6 @@ fn free_count(column: &[u8; 256], columns: &[u16]) -> usize
         let j = columns[k] as usize;
         k += 1;
         if column[j] == 1 {
-            if n == 1 {
-                return 2;
-            }
             n += 1;
         }
     }
@@ -65,8 +61,7 @@ fn columns_ask(column: &[u8; 256], columns: &[u16]) -> Asked
             let j = first_free(column, columns);
             Asked::Take(j)
         }
-        2..=256 => Asked::Settled,
-        _ => Asked::Settled,
+        2.. => Asked::Settled,
     }
 }
 
@@ -117,28 +112,27 @@ pub fn open_rows_ask<'a>(column: &'a [u8; 256], row: &'a [u8; 64], matrix: &[u16
 }
 
 // Takes what is forced until nothing is.
-pub fn force(s: Node, matrix: &[u16]) -> Forced
+pub fn force(mut s: Node, matrix: &[u16]) -> Forced
     requires { ⌜ Workable (now matrix) s ⌝ }
     ensures { λ r. ⌜ r ≡ force joined (matrixIn (now (matrix .entry))) s ⌝ }
 {
-    let mut n = s;
     loop {
-        let found = open_rows_ask(&n.column, &n.row, matrix);
+        let found = open_rows_ask(&s.column, &s.row, matrix);
         match found {
             Asked::Dead => {
                 return Forced {
-                    node: n,
+                    node: s,
                     alive: false,
                 };
             }
             Asked::Settled => {
                 return Forced {
-                    node: n,
+                    node: s,
                     alive: true,
                 };
             }
             Asked::Take(j) => {
-                n = n.take(j, matrix);
+                s = s.take(j, matrix);
             }
         }
     }

@@ -1,6 +1,6 @@
 -- The loop: reducing from the present node, with the rows used so far, gives what reducing from the first node gives. A candidate used is
 -- a candidate no more, so the rows used have room.
-use mathlib.Core.Path.{_≡_, refl, ap, sym, _∙_}
+use mathlib.Core.Path.{_≡_, refl, ap, sym, subst, _∙_}
 use mathlib.Core.List.{List, [], _∷_, _++_, map, map-append}
 use Prim.Native.Nat.{ℕ, suc, _+_, _≤_, _<_}
 use native.Mathlib.Numerals.{add-one}
@@ -22,15 +22,30 @@ use Rattle.rules.proofs.Costs.{Fair, Workable, costLimit}
 use Rattle.rules.proofs.Reducing.{pending, pending-fits, fair-lowers, reduce-none, reduce-some}
 use Rattle.node.specs.Stored.{matrixIn, FitsNode}
 use Rattle.node.specs.View.{view}
-use Rattle.candidates.specs.Best.{none, bestOf}
+use Rattle.candidates.specs.Best.{none, bestOf, Chooses}
+use Rattle.candidates.proofs.Closing.{lowered-same}
 use Rattle.lowering.specs.Lower.{Lowerable}
 use Rattle.lowering.specs.Done.{Done}
-use Rattle.lowering.proofs.Lowered.{lower-wide, lower-node}
+use Rattle.lowering.proofs.Lowered.{lower-falls, lower-wide, lower-node}
 
--- a node's best candidate does not depend on its bound
-pub same-best : (p : Matrix) (s : Node) → bestOf p (view (s .cost) (s .column) (s .row)) ≡ bestOf p s
-unfolding candidates candidate rowFirst leastOf freeOf freeColumns openRows
-same-best p s = refl
+-- a table of rows with the candidates of a node, whatever its bound
+abbrev Leaves : Matrix → Node → List ℕ → Type 0
+Leaves p s left = candidates p (view (s .cost) (s .column) left) ≡ candidates p s
+
+all-left : (p : Matrix) (s : Node) → Leaves p s (s .row)
+unfolding candidates leastOf freeOf freeColumns openRows
+all-left p s = refl
+
+-- it has the best candidate too
+best-left : (p : Matrix) (s : Node) (left : List ℕ) → Leaves p s left → bestOf p (view (s .cost) (s .column) left) ≡ bestOf p s
+unfolding candidate rowFirst leastOf freeOf freeColumns
+best-left p s left e = ap (bestIn (candidate p s) (rowFirst p s) none) e
+
+-- and the candidates of the node lowered
+lower-left : (p : Matrix) → FitsNode p → (s : Node) (i a : ℕ) (left : List ℕ) → Leaves p s left → Leaves p (rules.lower p s i a) left
+unfolding rules.lower candidates leastOf freeOf freeColumns openRows
+lower-left p F s i a left e =
+    lowered-same p (s .cost) (rules.lower p s i a .cost) (s .column) (λ k. lower-falls p F s i a k) (s .row) left e
 
 module _ (p : Matrix) (F : FitsNode p) (s : Node) where
   -- the best candidate is the row picked
@@ -116,7 +131,7 @@ used-more used count rows row e l =
     rw (add-one count, add-one row) (take-suc-set used count (suc row) l ∙ rw e (sym (map-append suc rows (row ∷ []))))
 
 -- where the loop stands
-pub record Reducing (l : List ℕ) (s now : Node) (used : List ℕ) (count : ℕ) (best : Candidate) : Type 0 where
+pub record Reducing (l : List ℕ) (s now : Node) (left used : List ℕ) (count : ℕ) (best : Candidate) : Type 0 where
   pub some : Workable l now
   pub long : length used ≡ 64
   pub wide : length (now .cost) ≡ 256
@@ -125,17 +140,14 @@ pub record Reducing (l : List ℕ) (s now : Node) (used : List ℕ) (count : ℕ
   pub used-is : take count used ≡ map suc rows
   pub count-is : count ≡ length rows
   pub room : count + pending (matrixIn l) now ≤ matrixIn l .rows
-  pub left : reduceBy (suc (matrixIn l .rows)) (matrixIn l) now rows ≡ rules.reduce (matrixIn l) s
+  pub goes-on : reduceBy (suc (matrixIn l .rows)) (matrixIn l) now rows ≡ rules.reduce (matrixIn l) s
+  pub leaves : Leaves (matrixIn l) now left
   pub best-is : best ≡ bestOf (matrixIn l) now
 
--- what is told of a node's tables
-abbrev BestIn : List ℕ → Node → Candidate → Type 0
-BestIn l s best = best ≡ bestOf (matrixIn l) (view (s .cost) (s .column) (s .row))
-
-pub reducing-start : (l : List ℕ) (s : Node) (used : List ℕ) (best : Candidate) → Workable l s → length used ≡ 64 → length (s .cost) ≡ 256 →
-    BestIn l s best → Reducing l s s used 0 best
+pub reducing-start : (l : List ℕ) (s : Node) (left used : List ℕ) (best : Candidate) → Workable l s → length used ≡ 64 →
+    length (s .cost) ≡ 256 → Chooses (matrixIn l) (s .cost) (s .column) (s .row) left best → Reducing l s s left used 0 best
 unfolding rules.reduce
-reducing-start l s used best k u c b = record {
+reducing-start l s left used best k u c b = record {
   some = k;
   long = u;
   wide = c;
@@ -144,11 +156,12 @@ reducing-start l s used best k u c b = record {
   used-is = refl;
   count-is = refl;
   room = omega (arith, pending-fits (matrixIn l) s);
-  left = refl;
-  best-is = b ∙ same-best (matrixIn l) s;
+  goes-on = refl;
+  leaves = b .same ∙ all-left (matrixIn l) s;
+  best-is = b .best-is ∙ best-left (matrixIn l) s (s .row) (all-left (matrixIn l) s);
 }
 
-module _ (l : List ℕ) (s now : Node) (used : List ℕ) (count : ℕ) (best : Candidate) (w : Reducing l s now used count best) where
+module _ (l : List ℕ) (s now : Node) (left used : List ℕ) (count : ℕ) (best : Candidate) (w : Reducing l s now left used count best) where
   module _ (n : best .cost ≡ 0 → ⊥) where
     step : Step (matrixIn l) now (best .row) (best .cost)
     step =
@@ -180,29 +193,34 @@ module _ (l : List ℕ) (s now : Node) (used : List ℕ) (count : ℕ) (best : C
       unfolding next
       next-is = lower-node (matrixIn l) now (s .column) (best .row) (best .cost) (w .marks) out told
 
-      pub reducing-next : (best′ : Candidate) → BestIn l (record { cost = out; column = now .column; row = now .row; bound = now .bound + best .cost }) best′ →
-          Reducing l s (record { cost = out; column = now .column; row = now .row; bound = now .bound + best .cost })
+      pub reducing-next : (left′ : List ℕ) (best′ : Candidate) → Chooses (matrixIn l) out (now .column) left left′ best′ →
+          Reducing l s (record { cost = out; column = now .column; row = now .row; bound = now .bound + best .cost }) left′
           (set used count (best .row + 1)) (count + 1) best′
       unfolding next
-      reducing-next best′ b = record {
-        some = record { kept = w .some .kept; fair = rw next-is (step .fair (w .some .fair)) };
-        long = length-set used count (best .row + 1) ∙ w .long;
-        wide = rw told (lower-wide (matrixIn l) (view (now .cost) (s .column) []) (best .row) (best .cost));
-        marks = w .marks;
-        rows = w .rows ++ (best .row ∷ []);
-        used-is = used-more used count (w .rows) (best .row) (w .used-is) (omega (arith, w .long, reducing-room .1));
-        count-is = omega (arith, w .count-is, length-append (w .rows) (best .row ∷ []));
-        room = rw next-is (omega (arith, w .room, step .falls));
-        left = rw next-is (sym (step .left (w .rows)) ∙ w .left);
-        best-is = b ∙ same-best (matrixIn l) next;
-      }
+      reducing-next left′ best′ b =
+          let leaves : Leaves (matrixIn l) next left =
+          subst (λ (x : Node). Leaves (matrixIn l) x left) (sym next-is)
+          (lower-left (matrixIn l) (w .some .kept .small .fits) now (best .row) (best .cost) left (w .leaves)) in
+          record {
+            some = record { kept = w .some .kept; fair = rw next-is (step .fair (w .some .fair)) };
+            long = length-set used count (best .row + 1) ∙ w .long;
+            wide = rw told (lower-wide (matrixIn l) (view (now .cost) (s .column) []) (best .row) (best .cost));
+            marks = w .marks;
+            rows = w .rows ++ (best .row ∷ []);
+            used-is = used-more used count (w .rows) (best .row) (w .used-is) (omega (arith, w .long, reducing-room .1));
+            count-is = omega (arith, w .count-is, length-append (w .rows) (best .row ∷ []));
+            room = rw next-is (omega (arith, w .room, step .falls));
+            goes-on = rw next-is (sym (step .left (w .rows)) ∙ w .goes-on);
+            leaves = b .same ∙ leaves;
+            best-is = b .best-is ∙ best-left (matrixIn l) next left leaves;
+          }
 
   pub reducing-end : best .cost ≡ 0 → Done (matrixIn l) s (record { node = now; used = used; count = count })
   reducing-end z =
       let p : Matrix = matrixIn l in
       let F = w .some .kept .small .fits in
       let d : rules.reduce p s ≡ record { node = now; used = w .rows } =
-      sym (w .left) ∙ reduce-none p F (Fair p costLimit) (fair-lowers p F costLimit) now (w .rows) (nothing-left p F now best (w .best-is) z) in
+      sym (w .goes-on) ∙ reduce-none p F (Fair p costLimit) (fair-lowers p F costLimit) now (w .rows) (nothing-left p F now best (w .best-is) z) in
       record {
         node-is = sym (ap (λ (x : Reduced). x .node) d);
         used-is = w .used-is ∙ ap (λ (x : Reduced). map suc (x .used)) (sym d);

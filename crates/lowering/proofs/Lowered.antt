@@ -1,8 +1,7 @@
 -- The step: the table that all columns of a row give has the amount off the cost of each free one.
 use mathlib.Core.Path.{_≡_, refl, sym, _∙_}
-use mathlib.Core.Bool.{Bool, true, false, cond, _&&_, _||_, and-false, false≢true}
+use mathlib.Core.Bool.{Bool, true, false, cond, _&&_, _||_, and-false}
 use mathlib.Core.List.{List, [], _∷_}
-use mathlib.Core.Logic.{⊎-elim}
 use Prim.Native.Nat.{ℕ, zero, suc, _+_, _-_, _≤_, _<_}
 use native.Mathlib.Nat.{sub-zero}
 use native.Mathlib.Omega.{arith}
@@ -15,14 +14,18 @@ use Rattle.node.specs.declared.Node.{Node}
 use Rattle.node.specs.Lists.{member, keep, from, upto, on}
 use Rattle.node.specs.Passes.{carry}
 use Rattle.node.specs.Matrix.{Matrix, width, covers}
-use Rattle.node.specs.Stored.{rowColumns}
-use Rattle.node.proofs.Members.{kept, member-at, member-cases, length-from}
+use Rattle.node.specs.Stored.{rowColumns, FitsNode}
+use Rattle.node.proofs.Members.{least-mono, kept, member-at, length-from}
 use Rattle.node.proofs.Passes.{Carrying, carrying-start, carrying-next, carrying-end}
 use Rattle.node.specs.View.{view}
-use Rattle.node.specs.Node.{isFree, costAt}
+use Rattle.node.specs.Node.{isFree, costAt, freeColumns, freeOf}
+use Rattle.rules.specs.Reduce.{leastOf}
 use Rattle.rules.specs.Reduce as rules
 use Rattle.rules.proofs.Plans.{FreeIn}
+use Rattle.rules.proofs.Rows.{free-in}
+use Rattle.rules.proofs.Costs.{cost-lower}
 use Rattle.node.proofs.Parts.{row-column, row-covers}
+use Rattle.candidates.proofs.Keep.{from-high}
 use Rattle.lowering.specs.Lower.{lowerOne, lowerAt, Covered, Rising}
 
 -- a free column, and another one
@@ -70,11 +73,6 @@ module _ (column cost : List ℕ) (a : ℕ) (row out : List ℕ) (k : ℕ) (w : 
   lowering-end l = carrying-end _ _ _ _ _ (w .left) l
 
 -- the numbers of a row rise
-from-high : (n k a : ℕ) → member a (from n k) ≡ true → k ≤ a
-unfolding member from
-from-high zero k a h = absurd (false≢true h)
-from-high (suc n) k a h = ⊎-elim (λ e. omega arith) (λ g. omega (arith, from-high n (suc k) a g)) (member-cases a k (from n (suc k)) h)
-
 keep-rising : (t : ℕ → Bool) (n k : ℕ) → Rising (keep t (from n k))
 unfolding keep from
 keep-rising t zero k = λ a b h l. absurd (omega arith)
@@ -169,6 +167,13 @@ module _ (p : Matrix) (i : ℕ) (cost column : List ℕ) (a : ℕ) (row : List �
       go : (b : Bool) (x : ℕ) → cond b (x - a) x ≡ x - on b a
       go true x = refl
       go false x = rw sub-zero
+
+-- no row's least cost rises
+pub lower-falls : (p : Matrix) → FitsNode p → (s : Node) (i a k : ℕ) → leastOf p (rules.lower p s i a) k ≤ leastOf p s k
+unfolding rules.lower leastOf freeOf freeColumns
+lower-falls p F s i a k =
+    least-mono (costAt (rules.lower p s i a)) (costAt s) (freeOf p s k)
+    (λ j m. omega (arith, cost-lower p F s i a j (free-in p s k j m .free .col)))
 
 pub lower-wide : (p : Matrix) (s : Node) (i a : ℕ) → length (rules.lower p s i a .cost) ≡ 256
 unfolding rules.lower

@@ -47,30 +47,32 @@ fn no_rows() -> [u8; 64] {
     [0u8; 64]
 }
 
-// Reduces a node: while there is a candidate, the best one is used.
-pub fn reduce_node(node: Node, matrix: &[u16]) -> Reduction
+// Reduces a node: while there is a candidate, the best one is used. Rows that can be candidates no more lose their marks in a table
+// of their own, so that later steps do not read them.
+pub fn reduce_node(mut node: Node, matrix: &[u16]) -> Reduction
     requires { ⌜ Workable (now matrix) node ⌝ }
     ensures { λ r. ⌜ Done (matrixIn (now (matrix .entry))) node r ⌝ }
 {
-    let mut present = node;
+    let column = node.column;
+    let mut left = node.row;
     let mut used = no_rows();
     let mut count: usize = 0;
-    let mut best = best_candidate(&present.cost, &present.column, &present.row, matrix);
+    let mut best = best_candidate(&node.cost, &node.column, &mut left, matrix);
     while best.cost != 0 {
         lower(
-            &mut present.cost,
-            &node.column,
+            &mut node.cost,
+            &column,
             matrix,
             best.row as usize,
             best.cost,
         );
-        present.bound = present.bound + best.cost;
+        node.bound = node.bound + best.cost;
         used[count] = (best.row + 1) as u8;
         count += 1;
-        best = best_candidate(&present.cost, &present.column, &present.row, matrix);
+        best = best_candidate(&node.cost, &node.column, &mut left, matrix);
     }
     Reduction {
-        node: present,
+        node: node,
         used: used,
         count: count,
     }

@@ -4,8 +4,6 @@ use native.Mathlib.Omega.{arith}
 use borrow.Author.Needs.{needs}
 use Rattle.node.specs.View.{view}
 use Rattle.node.proofs.Parts.{row-low}
-use Rattle.node.proofs.Passes.{better-so, better-not}
-use Rattle.choice.specs.Row.{precedes}
 use Rattle.node.proofs.Passes.{passing-row, passing-closed, passing-end}
 use Rattle.choice.proofs.Rows.{Choosing, choosing-start, choosing-open}
 use Rattle.choice.proofs.branch_row.Statement.{statement}
@@ -29,37 +27,22 @@ add-i c = omega arith
 element-copy-out-if1 : tie.Need-element-copy-out-if1 Inv-loop μ-loop
 element-copy-out-if1 c = row-low _ _ (passing-row (c .before .loop .inv) (c .loop-test .taken))
 
-row-statistics-requires : tie.Need-row-statistics-requires Inv-loop μ-loop
-row-statistics-requires c κs = passing-row (c .before .before .before .loop .inv) (c .before .before .loop-test .taken)
-
-row-precedes-requires : tie.Need-row-precedes-requires Inv-loop μ-loop
-row-precedes-requires c κs = search needs
+better-row-requires : tie.Need-better-row-requires Inv-loop μ-loop
+better-row-requires c κs = passing-row (c .before .before .before .loop .inv) (c .before .before .loop-test .taken)
 
 loop-less : tie.Need-loop-less Inv-loop μ-loop
-loop-less c = omega (arith, c .before .before .before .before .before .loop-test .taken)
+loop-less c = omega (arith, c .before .before .before .loop-test .taken)
 
 loop-again : tie.Need-loop-again Inv-loop μ-loop
 loop-again c =
-    let l = c .before .before .before .before .before in
-    let d = c .before in
-    choosing-open _ _ _ _ _ _ _ (l .before .loop .inv) (l .loop-test .taken) (d .before .before .if1 .taken) _ _ (d .before .row-statistics .ensures)
-    (better-so precedes (l .before .loop .best) (d .before .row-statistics .result) _ (d .row-precedes .ensures) (c .if2 .taken))
+    let l = c .before .before .before in
+    choosing-open _ _ _ _ _ _ _ (l .before .loop .inv) (l .loop-test .taken) (c .before .if1 .taken) _ (c .better-row .ensures)
 
 loop-less-2 : tie.Need-loop-less-2 Inv-loop μ-loop
-loop-less-2 c = omega (arith, c .before .before .before .before .before .loop-test .taken)
+loop-less-2 c = omega (arith, c .before .before .loop-test .taken)
 
 loop-again-2 : tie.Need-loop-again-2 Inv-loop μ-loop
 loop-again-2 c =
-    let l = c .before .before .before .before .before in
-    let d = c .before in
-    choosing-open _ _ _ _ _ _ _ (l .before .loop .inv) (l .loop-test .taken) (d .before .before .if1 .taken) _ _ (d .before .row-statistics .ensures)
-    (better-not precedes (l .before .loop .best) (d .before .row-statistics .result) _ (d .row-precedes .ensures) (c .if2 .left))
-
-loop-less-3 : tie.Need-loop-less-3 Inv-loop μ-loop
-loop-less-3 c = omega (arith, c .before .before .loop-test .taken)
-
-loop-again-3 : tie.Need-loop-again-3 Inv-loop μ-loop
-loop-again-3 c =
     let l = c .before .before in
     passing-closed (l .before .loop .inv) (l .loop-test .taken) (c .if1 .left)
 
@@ -76,12 +59,9 @@ branch-row-spec =
     loop-holds
     add-i
     element-copy-out-if1
-    row-statistics-requires
-    row-precedes-requires
+    better-row-requires
     loop-less
     loop-again
     loop-less-2
     loop-again-2
-    loop-less-3
-    loop-again-3
     returns)
