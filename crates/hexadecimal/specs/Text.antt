@@ -7,7 +7,7 @@ use lib.ListN.{length, take, drop}
 
 -- the value of a digit: 0 to 9, or a to f in small letters; 0 for any other character
 unfoldable pub digitOf : ℕ → ℕ
-digitOf b = cond (leb 97 b && leb b 102) (b - 87) (cond (leb 48 b && leb b 57) (b - 48) 0)
+digitOf b = cond (leb 48 b && leb b 57) (b - 48) (cond (leb 97 b && leb b 102) (b - 87) 0)
 
 abbrev pub byteOf : ℕ → ℕ → ℕ
 byteOf high low = digitOf high * 16 + digitOf low

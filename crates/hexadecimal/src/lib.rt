@@ -10,11 +10,17 @@ fn digit(b: u8) -> u8
     ensures { λ r. ⌜ r ≡ digitOf b ⌝ }
     ensures { λ r. ⌜ r ≤ 15 ⌝ }
 {
-    if b >= 97 && b <= 102 {
-        return b - 87;
+    if b < 48 {
+        return 0;
     }
-    if b >= 48 && b <= 57 {
+    if b <= 57 {
         return b - 48;
+    }
+    if b < 97 {
+        return 0;
+    }
+    if b <= 102 {
+        return b - 87;
     }
     0
 }

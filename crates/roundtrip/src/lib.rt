@@ -30,7 +30,12 @@ pub fn write_read(
     let written = writer::write(rows, costs, lengths, numbers, file);
     match written {
         WriteAnswer::Refused(why) => ReadAnswer::Refused(why),
-        WriteAnswer::Written(size) => reader::read(&file[0..size], costs_read, lengths_read, numbers_read),
+        WriteAnswer::Written(size) => reader::read(
+            &file[0..size],
+            costs_read,
+            lengths_read,
+            numbers_read,
+        ),
     }
 }
 
@@ -54,7 +59,13 @@ pub fn read_write(
         ReadAnswer::Accepted(shape) => {
             let columns = shape.columns;
             let entries = shape.entries;
-            writer::write(shape.rows as u16, &costs[0..columns], &lengths[0..columns], &numbers[0..entries], out)
+            writer::write(
+                shape.rows as u16,
+                &costs[0..columns],
+                &lengths[0..columns],
+                &numbers[0..entries],
+                out,
+            )
         }
     }
 }

@@ -1,70 +1,70 @@
+-- At each place of the text the bytes that are left, put after those that are there, give the whole.
+use borrow.Author.Needs.{needs}
+use Prim.Native.Nat.{_-_}
+use native.Mathlib.Omega.{arith}
+use lib.ListN.{length}
+use Rattle.hexadecimal.proofs.Laws.{Decoding, left-none, left-full, decoding-start, decoding-next, decoded-all}
 use Rattle.hexadecimal.proofs.decode.Statement.{statement}
 use Rattle.hexadecimal.proofs.decode.Tie as tie
-use Rattle.hexadecimal.proofs.decode.Reads as reads
-use Rattle.hexadecimal.proofs.decode.Lts as lts
-use Rattle.hexadecimal.proofs.byte.Reads as byte-reads
 
 abbrev Inv-loop : tie.InvT-loop
-Inv-loop text file₀ n₀ i₀ file n i = ?
+Inv-loop text file₀ n₀ i₀ file n i = Decoding text file₀ file n i
 
 abbrev μ-loop : tie.MeasureT-loop
-μ-loop text file₀ n₀ i₀ file n i = ?
+μ-loop text file₀ n₀ i₀ file n i = length text - i
 
--- src/lib.rt:37:5
 loop-holds : tie.Need-loop-holds Inv-loop μ-loop
-loop-holds c = ?
+loop-holds c = decoding-start _ _
 
--- src/lib.rt:39:13
 same-length : tie.Need-same-length Inv-loop μ-loop
-same-length c = ?
+same-length c = search needs
 
--- src/lib.rt:39:13
 returns : tie.Need-returns Inv-loop μ-loop
-returns c = ?
+returns c =
+    let l = c .before .before .loop in
+    let d = l .inv in
+    let t = decoded-all _ _ _ _ _ d (left-full _ _ (l .n) (l .i) (omega (arith, d .same-length, c .if1 .taken))) in
+    (t .1, (t .0, search needs))
 
--- src/lib.rt:41:29
 sub-byte : tie.Need-sub-byte Inv-loop μ-loop
-sub-byte c = ?
+sub-byte c = search needs
 
--- src/lib.rt:41:24
 shared-slice-read-byte : tie.Need-shared-slice-read-byte Inv-loop μ-loop
-shared-slice-read-byte c = ?
+shared-slice-read-byte c = search needs
 
--- src/lib.rt:41:37
 shared-slice-read-byte-2 : tie.Need-shared-slice-read-byte-2 Inv-loop μ-loop
-shared-slice-read-byte-2 c = ?
+shared-slice-read-byte-2 c = search needs
 
--- src/lib.rt:41:19
 byte-requires : tie.Need-byte-requires Inv-loop μ-loop
-byte-requires c κs = ?
+byte-requires c κs = search needs
 
--- src/lib.rt:41:9
 slice-write-file : tie.Need-slice-write-file Inv-loop μ-loop
-slice-write-file c = ?
+slice-write-file c = search needs
 
--- src/lib.rt:42:9
 add-n : tie.Need-add-n Inv-loop μ-loop
-add-n c = ?
+add-n c = search needs
 
--- src/lib.rt:43:9
 add-i : tie.Need-add-i Inv-loop μ-loop
-add-i c = ?
+add-i c = search needs
 
--- src/lib.rt:37:5
 loop-less : tie.Need-loop-less Inv-loop μ-loop
-loop-less c = ?
+loop-less c = search needs
 
--- src/lib.rt:37:5
 loop-again : tie.Need-loop-again Inv-loop μ-loop
-loop-again c = ?
+loop-again c =
+    let k = c .before .before .before in
+    let d = k .before .before .loop .inv in
+    decoding-next _ _ _ _ _ d (k .before .loop-test .taken) (k .if1 .left) _ (c .byte .ensures)
 
--- src/lib.rt:30:1
 same-length-2 : tie.Need-same-length-2 Inv-loop μ-loop
-same-length-2 c = ?
+same-length-2 c = search needs
 
--- src/lib.rt:30:1
 returns-2 : tie.Need-returns-2 Inv-loop μ-loop
-returns-2 c = ?
+returns-2 c =
+    let l = c .before .loop in
+    let d = l .inv in
+    let t = decoded-all _ _ _ _ _ d (left-none _ _ (l .n) (l .i) (c .loop-test .left)) in
+    (t .1, (t .0, search needs))
 
 pub decode-spec : {M : Type 1} → statement M
 decode-spec =

@@ -73,10 +73,13 @@ unfolding readOutcome
 returns-2 c =
     let f = c .before .before .before .before .before .before in
     let e = f .before .before .before .before .read-lists .ensures in
-    let is = f .found2 .given .1 in
-    (rw is at (e .0),
-    (rw is at (e .1 .0),
-    (λ why q. absurd (refuses-only _ _ (sym q)), λ found q. loaded-as _ _ _ _ _ (listed f) _ (search needs) (search needs) (c .matrix-list .ensures) found q)))
+    let is = f .found2 .given .1 in (
+      rw is at (e .0),
+      (
+        rw is at (e .1 .0),
+        (λ why q. absurd (refuses-only _ _ (sym q)), λ found q. loaded-as _ _ _ _ _ (listed f) _ (search needs) (search needs) (c .matrix-list .ensures) found q),
+      ),
+    )
 
 pub read-matrix-spec : {M : Type 1} → statement M
 read-matrix-spec =

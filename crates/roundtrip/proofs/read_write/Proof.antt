@@ -112,9 +112,10 @@ returns-2 c =
     let lengths = rw t at (e .1 .1 .0) in
     let numbers = rw t at (e .1 .1 .1) in
     let y = bytes (f .before .before .before .before .before .before .before .before .before .before .before .before .before .before .before .before) in
-    let is = lists-read-are _ _ _ _ _ (found f) _ _ _ _ _ _ costs lengths numbers in
-    (w .write .ensures .0 ∙ outcome-written _ _ _ _ _ (found f) y _ _ is,
-    (rw (file-written _ _ _ _ _ (found f) y 0 _ is) at (w .write .ensures .1), (costs, (lengths, numbers))))
+    let is = lists-read-are _ _ _ _ _ (found f) _ _ _ _ _ _ costs lengths numbers in (
+      w .write .ensures .0 ∙ outcome-written _ _ _ _ _ (found f) y _ _ is,
+      (rw (file-written _ _ _ _ _ (found f) y 0 _ is) at (w .write .ensures .1), (costs, (lengths, numbers))),
+    )
 
 pub read-write-spec : {M : Type 1} → statement M
 read-write-spec =
