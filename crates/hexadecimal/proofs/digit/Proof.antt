@@ -3,8 +3,6 @@ use borrow.Author.Needs.{needs}
 use Rattle.hexadecimal.proofs.Laws.{below-digits, is-digit, below-letters, is-letter, above-letters}
 use Rattle.hexadecimal.proofs.digit.Statement.{statement}
 use Rattle.hexadecimal.proofs.digit.Tie as tie
-use Rattle.hexadecimal.proofs.digit.Reads as reads
-use Rattle.hexadecimal.proofs.digit.Lts as lts
 
 returns : tie.Need-returns
 returns c = (below-digits _ (c .if1 .taken), search needs)

@@ -11,10 +11,6 @@ use Rattle.roundtrip.proofs.Laws.{Found, read-refused, found-fits, list
 use borrow.Author.Needs.{needs}
 use Rattle.roundtrip.proofs.read_write.Statement.{statement}
 use Rattle.roundtrip.proofs.read_write.Tie as tie
-use Rattle.roundtrip.proofs.read_write.Reads as reads
-use Rattle.roundtrip.proofs.read_write.Lts as lts
-use Rattle.reader.proofs.read.Reads as read-reads
-use Rattle.writer.proofs.write.Reads as write-reads
 
 -- the file is accepted
 found : (c : tie.After-found2) →

@@ -3,7 +3,7 @@ use mathlib.Core.Path.{_≡_, refl, _∙_}
 use native.Mathlib.Omega.{arith}
 use lib.ListN.{length}
 use Rattle.refusals.specs.Refusals.{accepted, filled}
-use Rattle.dutyfile.specs.File.{lists, render}
+use Rattle.dutyfile.specs.File.{lists}
 use Rattle.dutyfile.specs.Faults.{writing}
 use Rattle.examine.specs.Answer.{readOutcome}
 use Rattle.writer.specs.Answer.{writeOutcome}
@@ -11,10 +11,6 @@ use Rattle.roundtrip.proofs.Laws.{write-refused, written-fits, lists-re
 use borrow.Author.Needs.{needs}
 use Rattle.roundtrip.proofs.write_read.Statement.{statement}
 use Rattle.roundtrip.proofs.write_read.Tie as tie
-use Rattle.roundtrip.proofs.write_read.Reads as reads
-use Rattle.roundtrip.proofs.write_read.Lts as lts
-use Rattle.reader.proofs.read.Reads as read-reads
-use Rattle.writer.proofs.write.Reads as write-reads
 
 -- the lists are accepted
 written : (c : tie.After-written2) →
