@@ -101,9 +101,9 @@ module _ (s : List ℕ) (c l r : ℕ) where
     module _ (costs lengths numbers costs₀ lengths₀ numbers₀ : List ℕ) (cost-list : costs ≡ filled (reading s c l r) (parse s .costs) costs₀)
         (length-list : lengths ≡ filled (reading s c l r) (parse s .lengths) lengths₀)
         (number-list : numbers ≡ filled (reading s c l r) (parse s .numbers) numbers₀) where
-      pub lists-read-are : lists (found .rows) (take (found .columns - 0) costs) (take (found .columns - 0) lengths) (take (found .entries - 0) numbers) ≡ parse s
+      pub fronts-are : lists (found .rows) (take (found .columns - 0) costs) (take (found .columns - 0) lengths) (take (found .entries - 0) numbers) ≡ parse s
       unfolding parse shape
-      lists-read-are =
+      fronts-are =
           let is = passing .1 in
           let columns : columnsIn s ≡ found .columns = ap (λ (x : Shape). x .columns) is in
           let entries : length (parse s .numbers) ≡ found .entries = length-numbers s (accepted-file .walked) ∙ ap (λ (x : Shape). x .entries) is in

@@ -7,7 +7,7 @@ use Rattle.dutyfile.specs.Faults.{reading}
 use Rattle.dutyfile.proofs.Round.{Bytes}
 use Rattle.examine.specs.Answer.{readOutcome}
 use Rattle.writer.specs.Answer.{writeOutcome}
-use Rattle.roundtrip.proofs.Laws.{Found, read-refused, found-fits, lists-read-are, file-written, outcome-written}
+use Rattle.roundtrip.proofs.Laws.{Found, read-refused, found-fits, fronts-are, file-written, outcome-written}
 use borrow.Author.Needs.{needs}
 use Rattle.roundtrip.proofs.read_write.Statement.{statement}
 use Rattle.roundtrip.proofs.read_write.Tie as tie
@@ -108,7 +108,7 @@ returns-2 c =
     let lengths = rw t at (e .1 .1 .0) in
     let numbers = rw t at (e .1 .1 .1) in
     let y = bytes (f .before .before .before .before .before .before .before .before .before .before .before .before .before .before .before .before) in
-    let is = lists-read-are _ _ _ _ _ (found f) _ _ _ _ _ _ costs lengths numbers in (
+    let is = fronts-are _ _ _ _ _ (found f) _ _ _ _ _ _ costs lengths numbers in (
       w .write .ensures .0 ∙ outcome-written _ _ _ _ _ (found f) y _ _ is,
       (rw (file-written _ _ _ _ _ (found f) y 0 _ is) at (w .write .ensures .1), (costs, (lengths, numbers))),
     )
