@@ -163,11 +163,10 @@ write-then-read d places written e =
 -- From a file to lists and back.
 
 -- numbers of a byte each
-pub Bytes : List ℕ → Type 0
+abbrev pub Bytes : List ℕ → Type 0
 Bytes s = (i : ℕ) → getD s i 0 < 256
 
 drop-bytes : (k : ℕ) (s : List ℕ) → Bytes s → Bytes (drop k s)
-unfolding Bytes
 drop-bytes k s b i = rw (getD-drop k s i 0) (b (k + i))
 
 -- the first 8 numbers of a list, and the rest
@@ -182,7 +181,6 @@ joined d e f g = rw (e, f, g)
 
 entry-bytes : (b : List ℕ) → Bytes b → 8 ≤ length b →
     bytes32 (at32 b 0) ++ bytes16 (at16 b 4) ++ bytes16 (at16 b 6) ++ drop 8 b ≡ b
-unfolding Bytes
 entry-bytes b k h =
     joined (drop 8 b) (split32-join _ _ _ _ (k 0) (k 1) (k 2) (k 3)) (split16-join _ _ (k 4) (k 5)) (split16-join _ _ (k 6) (k 7)) ∙ sym (front b h)
 
@@ -203,7 +201,7 @@ entries-bytes m n t (suc k) b y h p =
     ∙ entry-bytes b y (omega arith)
 
 header-bytes : (s : List ℕ) → Bytes s → 8 ≤ length s → same (take 4 s) magic ≡ true → header (rowsIn s) (columnsIn s) ++ drop 8 s ≡ s
-unfolding header Bytes
+unfolding header
 header-bytes s k h e =
     let m : magic ≡ getD s 0 0 ∷ getD s 1 0 ∷ getD s 2 0 ∷ getD s 3 0 ∷ [] =
     rw (first 0 (omega arith), first 1 (omega arith), first 2 (omega arith), first 3 (omega arith)) in

@@ -1,2 +1,2 @@
-mod Read
+pub mod Read
 mod Loading

@@ -18,8 +18,8 @@ use Rattle.dutyfile.specs.File.{parse, instance}
 use Rattle.refusals.specs.declared.Refusal.{Refusal}
 use Rattle.examine.specs.declared.ReadAnswer.the-variants.{Accepted as accept, Refused as refuse}
 use Rattle.matrix.specs.Stated.{stated, Statable, Holds}
-use Rattle.lists.specs.Listed.{Listed}
 use Rattle.lists.specs.Loaded.{Loaded}
+use Rattle.lists.proofs.Read.{Listed}
 
 -- an answer that is refused is not accepted
 pub refuses-only : (why : Refusal) (found : Shape) → refuse why ≡ accept found → ⊥

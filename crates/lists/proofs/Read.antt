@@ -3,24 +3,38 @@ use mathlib.Core.Path.{_≡_, refl, ap, sym, _∙_}
 use mathlib.Core.List.{List}
 use Prim.Native.Nat.{ℕ, _≤_}
 use native.Mathlib.Omega.{arith}
-use lib.ListN.{length, getD, take, drop, replicate, length-map}
-use lib.Seq.{take-append-seam}
+use lib.ListN.{length, getD, take, replicate, length-map}
 use borrow.Author.Tests.{le-leb}
 use Rattle.refusals.specs.Refusals.{Fault, fine, fault, _then_, accepted, refused, unless, numberOf, front, filled}
 use Rattle.refusals.specs.declared.Refusal.{Refusal}
-use Rattle.refusals.proofs.Laws.{passes, accepts, refuses, fills}
-use Rattle.node.specs.Lists.{table}
+use Rattle.refusals.proofs.Laws.{passes, accepts, refuses, fills, front-take}
+use Rattle.node.specs.Lists.{table, total}
+use Rattle.node.specs.Matrix.{width}
+use Rattle.rules.proofs.Costs.{costLimit}
 use Rattle.dutyfile.specs.declared.Shape.{Shape}
-use Rattle.dutyfile.specs.File.{columnsIn, entries, costOf, sizeOf, parse, sum, shape}
+use Rattle.dutyfile.specs.File.{columnsIn, entries, costOf, sizeOf, parse, instance, sum, shape}
 use Rattle.dutyfile.specs.Faults.{fileFault, roomsFault, reading, contentsFault}
 use Rattle.dutyfile.proofs.Entries.{length-entries}
 use Rattle.dutyfile.proofs.Facts.{Accepted, file-fine, all-pass, contents-small, length-numbers}
 use Rattle.examine.specs.declared.ReadAnswer.{ReadAnswer}
 use Rattle.examine.specs.declared.ReadAnswer.the-variants.{Accepted as accept, Refused as refuse}
 use Rattle.examine.specs.Answer.{readOutcome}
+use Rattle.matrix.specs.Stated.{stated, Statable}
 use Rattle.matrix.proofs.Root.{zeros-after}
 use Rattle.matrix.proofs.Accepted.{file-is, file-wide, file-statable, file-cheap}
-use Rattle.lists.specs.Listed.{Places, Listed}
+use Rattle.lists.specs.Places.{Places}
+
+-- an accepted file's numbers of rows, columns and row numbers, a table of its costs, and lists whose first places state its matrix
+pub record Listed (file : List ℕ) (found : Shape) (costs lengths numbers : List ℕ) : Type 0 where
+  pub passes : fileFault file ≡ fine
+  pub shape-is : shape file ≡ found
+  pub columns : found .columns ≤ 256
+  pub entries : found .entries ≤ 4096
+  pub costs-is : costs ≡ table 256 (λ j. getD (parse file .costs) j 0)
+  pub statable : Statable (found .rows) (take (found .columns) lengths) (take (found .entries) numbers)
+  pub matrix-is : stated (found .rows) (take (found .columns) lengths) (take (found .entries) numbers) ≡ instance (parse file) .matrix
+  pub wide : width (instance (parse file) .matrix) ≡ found .columns
+  pub cheap : total (width (instance (parse file) .matrix)) (λ j. getD (parse file .costs) j 0) ≤ costLimit
 
 -- what an accepted file's lists hold
 record Sizes (s : List ℕ) : Type 0 where
@@ -54,58 +68,55 @@ reading-local s = go (fileFault s) refl
     go fine e = rw (has-room s (file-fine s e))
     go (fault k) e = refl
 
--- a list at the front of another
-front-take : (new old : List ℕ) (n : ℕ) → length new ≡ n → take n (front new old) ≡ new
-unfolding front
-front-take new old n e = rw (← e) (take-append-seam new (drop (length new) old))
-
+-- a list at the front of zeros
 front-table : (new : List ℕ) → length new ≤ 256 → front new (replicate 256 0) ≡ table 256 (λ j. getD new j 0)
 unfolding front
 front-table new h = zeros-after new 256 h
 
-module _ (s : List ℕ) (r : ReadAnswer) (old old′ old″ : List ℕ) (places : Places old old′ old″)
-    (told : readOutcome r ≡ reading s (length old) (length old′) (length old″)) where
-  says : readOutcome r ≡ unless (fileFault s) (shape s)
-  says = rw (places .costs-long, places .lengths-long, places .numbers-long) at told ∙ reading-local s
+module _ (s : List ℕ) (r : ReadAnswer) where
+  pub file-alone : (old old′ old″ : List ℕ) → Places old old′ old″ → readOutcome r ≡ reading s (length old) (length old′) (length old″) →
+      readOutcome r ≡ unless (fileFault s) (shape s)
+  file-alone old old′ old″ places told = rw (places .costs-long, places .lengths-long, places .numbers-long) at told ∙ reading-local s
 
-  pub file-refused : (w : Refusal) → r ≡ refuse w → fileFault s ≡ fault (numberOf w)
-  unfolding readOutcome
-  file-refused w e =
-      let t : refused (numberOf w) ≡ unless (fileFault s) (shape s) = rw e at says in
-      refuses _ _ (numberOf w) (sym t)
-
-  module _ (found : Shape) (e : r ≡ accept found) where
-    tells : (fileFault s ≡ fine) × (shape s ≡ found)
+  module _ (says : readOutcome r ≡ unless (fileFault s) (shape s)) where
+    pub file-refused : (w : Refusal) → r ≡ refuse w → fileFault s ≡ fault (numberOf w)
     unfolding readOutcome
-    tells =
-        let t : accepted found ≡ unless (fileFault s) (shape s) = rw e at says in
-        accepts _ _ _ (sym t)
+    file-refused w e =
+        let t : refused (numberOf w) ≡ unless (fileFault s) (shape s) = rw e at says in
+        refuses _ _ (numberOf w) (sym t)
 
-    filled-is : (new old now : List ℕ) → now ≡ filled (readOutcome r) new old → now ≡ front new old
-    unfolding readOutcome
-    filled-is new old now h = h ∙ fills found new old (rw e)
+    module _ (found : Shape) (e : r ≡ accept found) where
+      tells : (fileFault s ≡ fine) × (shape s ≡ found)
+      unfolding readOutcome
+      tells =
+          let t : accepted found ≡ unless (fileFault s) (shape s) = rw e at says in
+          accepts _ _ _ (sym t)
 
-    pub file-listed : (costs lengths numbers : List ℕ) → costs ≡ filled (readOutcome r) (parse s .costs) old →
-        lengths ≡ filled (readOutcome r) (parse s .lengths) old′ → numbers ≡ filled (readOutcome r) (parse s .numbers) old″ →
-        Listed s found costs lengths numbers
-    unfolding shape
-    file-listed costs lengths numbers h l n =
-        let a : Accepted s = file-fine s (tells .0) in
-        let z : Sizes s = sizes s a in
-        let c : costs ≡ table 256 (λ j. getD (parse s .costs) j 0) =
-        filled-is _ _ _ h ∙ rw (places .costs-zero) (front-table (parse s .costs) (omega (arith, z .costs-long, z .columns))) in
-        let d : take (columnsIn s) lengths ≡ parse s .lengths =
-        ap (take (columnsIn s)) (filled-is _ _ _ l) ∙ front-take (parse s .lengths) old′ (columnsIn s) (z .lengths-long) in
-        let k : take (sum (parse s .lengths)) numbers ≡ parse s .numbers =
-        ap (take (sum (parse s .lengths))) (filled-is _ _ _ n) ∙ front-take (parse s .numbers) old″ (sum (parse s .lengths)) (z .numbers-long) in
-        rw (sym (tells .1)) (record {
-          passes = tells .0;
-          shape-is = refl;
-          columns = z .columns;
-          entries = z .entries;
-          costs-is = c;
-          statable = rw (d, k) (file-statable s a);
-          matrix-is = rw (d, k) (file-is s a);
-          wide = file-wide s a;
-          cheap = file-cheap s a;
-        })
+      filled-is : (new old now : List ℕ) → now ≡ filled (readOutcome r) new old → now ≡ front new old
+      unfolding readOutcome
+      filled-is new old now h = h ∙ fills found new old (rw e)
+
+      pub file-listed : (old old′ old″ : List ℕ) → Places old old′ old″ → (costs lengths numbers : List ℕ) →
+          costs ≡ filled (readOutcome r) (parse s .costs) old → lengths ≡ filled (readOutcome r) (parse s .lengths) old′ → numbers ≡ filled (readOutcome r) (parse s .numbers) old″ →
+          Listed s found costs lengths numbers
+      unfolding shape
+      file-listed old old′ old″ places costs lengths numbers h l n =
+          let a : Accepted s = file-fine s (tells .0) in
+          let z : Sizes s = sizes s a in
+          let c : costs ≡ table 256 (λ j. getD (parse s .costs) j 0) =
+          filled-is _ _ _ h ∙ rw (places .costs-zero) (front-table (parse s .costs) (omega (arith, z .costs-long, z .columns))) in
+          let d : take (columnsIn s) lengths ≡ parse s .lengths =
+          ap (take (columnsIn s)) (filled-is _ _ _ l) ∙ front-take (parse s .lengths) old′ (columnsIn s) (z .lengths-long) in
+          let k : take (sum (parse s .lengths)) numbers ≡ parse s .numbers =
+          ap (take (sum (parse s .lengths))) (filled-is _ _ _ n) ∙ front-take (parse s .numbers) old″ (sum (parse s .lengths)) (z .numbers-long) in
+          rw (sym (tells .1)) (record {
+            passes = tells .0;
+            shape-is = refl;
+            columns = z .columns;
+            entries = z .entries;
+            costs-is = c;
+            statable = rw (d, k) (file-statable s a);
+            matrix-is = rw (d, k) (file-is s a);
+            wide = file-wide s a;
+            cheap = file-cheap s a;
+          })

@@ -1,2 +1,2 @@
-pub mod Listed
+pub mod Places
 pub mod Loaded

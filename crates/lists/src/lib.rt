@@ -2,12 +2,14 @@
 use examine::ReadAnswer;
 ghost use mathlib.Core.Path.{_≡_};
 ghost use lib.ListN.{replicate};
-ghost use Rattle.refusals.specs.Refusals.{fault, numberOf};
+ghost use Rattle.refusals.specs.Refusals.{unless, filled};
 ghost use Rattle.refusals.specs.declared.Refusal.{Refusal};
 ghost use Rattle.dutyfile.specs.declared.Shape.{Shape};
+ghost use Rattle.dutyfile.specs.File.{parse, shape};
 ghost use Rattle.dutyfile.specs.Faults.{fileFault};
 ghost use Rattle.examine.specs.declared.ReadAnswer.the-variants.{Accepted, Refused};
-ghost use Rattle.lists.specs.Listed.{Places, Listed};
+ghost use Rattle.examine.specs.Answer.{readOutcome};
+ghost use Rattle.lists.specs.Places.{Places};
 ghost use Rattle.lists.specs.Loaded.{Loaded};
 
 // Places for n costs, n body lengths and t row numbers.
@@ -29,19 +31,23 @@ fn no_numbers() -> [u8; 4096]
     [0u8; 4096]
 }
 
-// Reads a file into such places: the matrix and the costs that they state then are the file's.
+// Reads a file into such places, which have room for every file: it is refused by its own tests alone.
 fn read_lists(file: &[u8], costs: &mut [u32], lengths: &mut [u16], numbers: &mut [u8]) -> ReadAnswer
     requires { ⌜ Places (now costs) (now lengths) (now numbers) ⌝ }
-    ensures { λ r. ⌜ ((why : Refusal) → r ≡ Refused why → fileFault (now (file .entry)) ≡ fault (numberOf why)) ⌝ }
-    ensures { λ r. ⌜ ((found : Shape) → r ≡ Accepted found → Listed (now (file .entry)) found (now (costs .exit)) (now (lengths .exit)) (now (numbers .exit))) ⌝ }
+    ensures { λ r. ⌜ readOutcome r ≡ unless (fileFault (now (file .entry))) (shape (now (file .entry))) ⌝ }
+    ensures { λ r. ⌜ now (costs .exit) ≡ filled (readOutcome r) (parse (now (file .entry)) .costs) (now (costs .entry)) ⌝ }
+    ensures { λ r. ⌜ now (lengths .exit) ≡ filled (readOutcome r) (parse (now (file .entry)) .lengths) (now (lengths .entry)) ⌝ }
+    ensures { λ r. ⌜ now (numbers .exit) ≡ filled (readOutcome r) (parse (now (file .entry)) .numbers) (now (numbers .entry)) ⌝ }
 {
     reader::read(file, costs, lengths, numbers)
 }
 
-// Reads a file: the list of its matrix, and its costs.
+// Reads a file: the list of its matrix, and its costs; or a refusal, with both as they were.
 pub fn read_matrix(file: &[u8], matrix: &mut [u16; 8516], costs: &mut [u32; 256]) -> ReadAnswer
     requires { ⌜ now costs ≡ replicate 256 0 ⌝ }
-    ensures { λ r. ⌜ ((why : Refusal) → r ≡ Refused why → fileFault (now (file .entry)) ≡ fault (numberOf why)) ⌝ }
+    ensures { λ r. ⌜ readOutcome r ≡ unless (fileFault (now (file .entry))) (shape (now (file .entry))) ⌝ }
+    ensures { λ r. ⌜ now (costs .exit) ≡ filled (readOutcome r) (parse (now (file .entry)) .costs) (now (costs .entry)) ⌝ }
+    ensures { λ r. ⌜ ((why : Refusal) → r ≡ Refused why → now (matrix .exit) ≡ now (matrix .entry)) ⌝ }
     ensures { λ r. ⌜ ((found : Shape) → r ≡ Accepted found → Loaded (now (file .entry)) found (now (matrix .exit)) (now (costs .exit))) ⌝ }
 {
     let mut lengths = no_lengths();

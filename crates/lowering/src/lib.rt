@@ -4,6 +4,7 @@ use node::Node;
 use node::row_part;
 ghost use mathlib.Core.Path.{_≡_};
 ghost use mathlib.Core.List.{[]};
+ghost use lib.ListN.{replicate};
 ghost use Rattle.node.specs.View.{view};
 ghost use Rattle.node.specs.Stored.{matrixIn, Columns};
 ghost use Rattle.rules.specs.Reduce as rules;
@@ -43,7 +44,9 @@ fn lower(cost: &mut [u32; 256], column: &[u8; 256], matrix: &[u16], i: usize, am
 }
 
 // Places for the rows used.
-fn no_rows() -> [u8; 64] {
+fn no_rows() -> [u8; 64]
+    ensures { λ r. ⌜ r ≡ replicate 64 0 ⌝ }
+{
     [0u8; 64]
 }
 

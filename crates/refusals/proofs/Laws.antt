@@ -4,8 +4,8 @@ use mathlib.Core.Bool.{Bool, true, false}
 use mathlib.Core.List.{List}
 use Prim.Native.Nat.{ℕ, _+_, _-_, _≤_}
 use native.Mathlib.Nat.{zero-add}
-use lib.ListN.{length, getD, drop}
-use lib.Seq.{sets, sets-eq, getD-drop, getD-append-add}
+use lib.ListN.{length, getD, take, drop}
+use lib.Seq.{sets, sets-eq, getD-drop, getD-append-add, take-append-seam}
 use native.Mathlib.Omega.{arith}
 use Rattle.refusals.specs.Refusals.{Fault, fine, fault, ask, _then_, numberOf, faultOf, Outcome, accepted, refused, unless, front, filled}
 use Rattle.refusals.specs.declared.Refusal.{Refusal}
@@ -87,6 +87,11 @@ outcome-goes-on g a e = rw (goes-on g e)
 pub front-sets : (new old : List ℕ) → length new ≤ length old → sets old 0 new ≡ front new old
 unfolding front
 front-sets new old h = rw (sets-eq new old 0 (omega arith), zero-add)
+
+-- the front is the new list
+pub front-take : (new old : List ℕ) (n : ℕ) → length new ≡ n → take n (front new old) ≡ new
+unfolding front
+front-take new old n e = rw (← e) (take-append-seam new (drop (length new) old))
 
 -- 01: places beyond what is filled keep their contents
 pub beyond : (new old : List ℕ) (k : ℕ) → length new ≤ k → getD (front new old) k 0 ≡ getD old k 0

@@ -1,5 +1,5 @@
 -- The reader fills the lists.
-use Rattle.lists.proofs.Read.{file-refused, file-listed}
+use Rattle.lists.proofs.Read.{file-alone}
 use borrow.Author.Needs.{needs}
 use Rattle.lists.proofs.read_lists.Statement.{statement}
 use Rattle.lists.proofs.read_lists.Tie as tie
@@ -21,7 +21,7 @@ returns c =
     let k = c .before .before .before .before .before .before in
     let e = k .read .ensures in
     let h = k .before .before .before .before .before .before .before .before .pre in
-    (λ why is. file-refused _ _ _ _ _ h (e .0) why is, λ found is. file-listed _ _ _ _ _ h (e .0) found is _ _ _ (e .1 .0) (e .1 .1 .0) (e .1 .1 .1))
+    (file-alone _ _ _ _ _ h (e .0), e .1)
 
 pub read-lists-spec : {M : Type 1} → statement M
 read-lists-spec =

@@ -1,7 +1,8 @@
 -- The lists are read, and where the file is accepted the matrix list is built of their parts.
-use mathlib.Core.Path.{sym, _∙_}
+use mathlib.Core.Path.{refl, sym}
 use native.Mathlib.Omega.{arith}
-use Rattle.lists.specs.Listed.{Listed}
+use Rattle.examine.specs.Answer.{readOutcome}
+use Rattle.lists.proofs.Read.{Listed, file-listed}
 use Rattle.lists.proofs.Loading.{refuses-only, parts-statable, loaded-as}
 use borrow.Author.Needs.{needs}
 use Rattle.lists.proofs.read_matrix.Statement.{statement}
@@ -12,7 +13,10 @@ listed : (c : tie.After-found2) →
     let k = c .before .before .before .before in
     Listed (k .before .before .before .before .before .before .before .args .file .now) (c .found2 .given .0 .0)
     (k .read-lists .last .1 .0) (k .read-lists .last .1 .1 .0) (k .read-lists .last .1 .1 .1 .0)
-listed c = let k = c .before .before .before .before in k .read-lists .ensures .1 _ (c .found2 .given .1)
+listed c =
+    let k = c .before .before .before .before in
+    let e = k .read-lists .ensures in
+    file-listed _ _ (e .0) _ (c .found2 .given .1) _ _ _ (search needs) _ _ _ (e .1 .0) (e .1 .1 .0) (e .1 .1 .1)
 
 no-lengths-requires : tie.Need-no-lengths-requires
 no-lengths-requires c κs = search needs
@@ -57,14 +61,25 @@ matrix-list-requires : tie.Need-matrix-list-requires
 matrix-list-requires c κs = parts-statable _ _ _ _ _ (listed (c .before .before .before .before .before))
 
 returns : tie.Need-returns
+unfolding readOutcome
 returns c =
     let f = c .before in
-    (λ why e. f .before .before .before .before .read-lists .ensures .0 why (f .found .given .1 ∙ e), λ found e. absurd (refuses-only _ _ e))
+    let e = f .before .before .before .before .read-lists .ensures in
+    let is = f .found .given .1 in
+    (rw is at (e .0), (rw is at (e .1 .0), (λ why q. refl, λ found q. absurd (refuses-only _ _ q))))
 
 returns-2 : tie.Need-returns-2
+unfolding readOutcome
 returns-2 c =
     let f = c .before .before .before .before .before .before in
-    (λ why e. absurd (refuses-only _ _ (sym e)), λ found e. loaded-as _ _ _ _ _ (listed f) _ (search needs) (search needs) (c .matrix-list .ensures) found e)
+    let e = f .before .before .before .before .read-lists .ensures in
+    let is = f .found2 .given .1 in (
+      rw is at (e .0),
+      (
+        rw is at (e .1 .0),
+        (λ why q. absurd (refuses-only _ _ (sym q)), λ found q. loaded-as _ _ _ _ _ (listed f) _ (search needs) (search needs) (c .matrix-list .ensures) found q),
+      ),
+    )
 
 pub read-matrix-spec : {M : Type 1} → statement M
 read-matrix-spec =

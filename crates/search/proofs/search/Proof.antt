@@ -5,6 +5,7 @@ use Rattle.refusals.proofs.Laws.{failed, passed}
 use Rattle.lists.specs.Loaded.{Loaded}
 use Rattle.answer.specs.Answer.{searchOutcome}
 use Rattle.search.proofs.Called.{refused-demand, refused-file, refused-call, searchable, plan-fits, given-answer, given-plan, given-demand}
+use Rattle.lists.proofs.Read.{file-refused}
 use borrow.Author.Needs.{needs}
 use Rattle.search.proofs.search.Statement.{statement}
 use Rattle.search.proofs.search.Tie as tie
@@ -13,7 +14,7 @@ use Rattle.search.proofs.search.Tie as tie
 loaded : (c : tie.After-found2) →
     let k = c .before .before in
     Loaded (k .before .before .before .before .before .before .before .args .file .now) (c .found2 .given .0 .0) (k .read-matrix .last .1 .0) (k .read-matrix .last .1 .1 .0)
-loaded c = c .before .before .read-matrix .ensures .1 _ (c .found2 .given .1)
+loaded c = c .before .before .read-matrix .ensures .1 .1 .1 _ (c .found2 .given .1)
 
 no-cells-requires : tie.Need-no-cells-requires
 no-cells-requires c κs = search needs
@@ -67,7 +68,7 @@ returns : tie.Need-returns
 unfolding searchOutcome filled
 returns c =
     let f = c .before in
-    (refused-file _ _ _ _ (f .before .before .read-matrix .ensures .0 _ (f .found .given .1)), (refl, refused-demand _ _ _ _))
+    (refused-file _ _ _ _ (file-refused _ _ (f .before .before .read-matrix .ensures .0) _ (f .found .given .1)), (refl, refused-demand _ _ _ _))
 
 returns-2 : tie.Need-returns-2
 unfolding searchOutcome filled

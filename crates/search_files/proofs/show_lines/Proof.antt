@@ -79,7 +79,7 @@ add-at c = search needs
 loop-less : tie.Need-loop-less Inv-loop μ-loop
 loop-less c =
     let k = c .before .before .before .before in
-    omega (arith, k .before .before .find .ensures .0, k .before .before .find .ensures .1, k .before .find2 .ensures .0, k .before .find2 .ensures .1, k .find3 .ensures .0, k .before .before .before .loop-test .taken)
+    omega (arith, k .before .before .find .ensures .1 .0, k .before .before .find .ensures .1 .1, k .before .find2 .ensures .1 .0, k .before .find2 .ensures .1 .1, k .find3 .ensures .1 .0, k .before .before .before .loop-test .taken)
 
 -- src/main.rt:58:5
 loop-again : tie.Need-loop-again Inv-loop μ-loop
