@@ -19,14 +19,14 @@ use Rattle.node.proofs.Members.{least-le}
 use Rattle.rules.proofs.Plans.{FreeIn}
 use Rattle.rules.proofs.Rows.{in-free}
 use Rattle.rules.proofs.Costs.{Fair, Workable, costLimit}
-use Rattle.rules.proofs.Reducing.{pending, pending-fits, fair-lowers, reduce-none, reduce-some}
+use Rattle.rules.proofs.Reducing.{pending, pending-fits, lower-least, fair-lowers, reduce-none, reduce-some}
 use Rattle.node.specs.Stored.{matrixIn, FitsNode}
 use Rattle.node.specs.View.{view}
 use Rattle.candidates.specs.Best.{none, bestOf, Chooses}
 use Rattle.candidates.proofs.Closing.{lowered-same}
 use Rattle.lowering.specs.Lower.{Lowerable}
 use Rattle.lowering.specs.Done.{Done}
-use Rattle.lowering.proofs.Lowered.{lower-falls, lower-wide, lower-node}
+use Rattle.lowering.proofs.Lowered.{lower-wide, lower-node}
 
 -- a table of rows with the candidates of a node, whatever its bound
 abbrev Leaves : Matrix → Node → List ℕ → Type 0
@@ -45,7 +45,7 @@ best-left p s left e = ap (bestIn (candidate p s) (rowFirst p s) none) e
 lower-left : (p : Matrix) → FitsNode p → (s : Node) (i a : ℕ) (left : List ℕ) → Leaves p s left → Leaves p (rules.lower p s i a) left
 unfolding rules.lower candidates leastOf freeOf freeColumns openRows
 lower-left p F s i a left e =
-    lowered-same p (s .cost) (rules.lower p s i a .cost) (s .column) (λ k. lower-falls p F s i a k) (s .row) left e
+    lowered-same p (s .cost) (rules.lower p s i a .cost) (s .column) (lower-least p F s i a) (s .row) left e
 
 module _ (p : Matrix) (F : FitsNode p) (s : Node) where
   -- the best candidate is the row picked

@@ -14,16 +14,13 @@ use Rattle.node.specs.declared.Node.{Node}
 use Rattle.node.specs.Lists.{member, keep, from, upto, on}
 use Rattle.node.specs.Passes.{carry}
 use Rattle.node.specs.Matrix.{Matrix, width, covers}
-use Rattle.node.specs.Stored.{rowColumns, FitsNode}
-use Rattle.node.proofs.Members.{least-mono, kept, member-at, length-from}
+use Rattle.node.specs.Stored.{rowColumns}
+use Rattle.node.proofs.Members.{kept, member-at, length-from}
 use Rattle.node.proofs.Passes.{Carrying, carrying-start, carrying-next, carrying-end}
 use Rattle.node.specs.View.{view}
-use Rattle.node.specs.Node.{isFree, costAt, freeColumns, freeOf}
-use Rattle.rules.specs.Reduce.{leastOf}
+use Rattle.node.specs.Node.{isFree, costAt}
 use Rattle.rules.specs.Reduce as rules
 use Rattle.rules.proofs.Plans.{FreeIn}
-use Rattle.rules.proofs.Rows.{free-in}
-use Rattle.rules.proofs.Costs.{cost-lower}
 use Rattle.node.proofs.Parts.{row-column, row-covers}
 use Rattle.candidates.proofs.Keep.{from-high}
 use Rattle.lowering.specs.Lower.{lowerOne, lowerAt, Covered, Rising}
@@ -167,13 +164,6 @@ module _ (p : Matrix) (i : ℕ) (cost column : List ℕ) (a : ℕ) (row : List �
       go : (b : Bool) (x : ℕ) → cond b (x - a) x ≡ x - on b a
       go true x = refl
       go false x = rw sub-zero
-
--- no row's least cost rises
-pub lower-falls : (p : Matrix) → FitsNode p → (s : Node) (i a k : ℕ) → leastOf p (rules.lower p s i a) k ≤ leastOf p s k
-unfolding rules.lower leastOf freeOf freeColumns
-lower-falls p F s i a k =
-    least-mono (costAt (rules.lower p s i a)) (costAt s) (freeOf p s k)
-    (λ j m. omega (arith, cost-lower p F s i a j (free-in p s k j m .free .col)))
 
 pub lower-wide : (p : Matrix) (s : Node) (i a : ℕ) → length (rules.lower p s i a .cost) ≡ 256
 unfolding rules.lower

@@ -115,27 +115,25 @@ fn drop_rows(column: &mut [u8; 256], body: &[u16], matrix: &[u16])
 impl Node {
     // Column j taken (01: the step of forcing a duty): its cost joins the bound, its rows close, and every column that
     // covers one of them is no longer free.
-    pub fn take(self, j: usize, matrix: &[u16]) -> Node
+    pub fn take(mut self, j: usize, matrix: &[u16]) -> Node
         requires { ⌜ Takes self j (now matrix) ⌝ }
         ensures { λ r. ⌜ r ≡ take (matrixIn (now (matrix .entry))) self j (self .bound + costAt self j) ⌝ }
     {
         let body = column_part(matrix, j);
-        let mut n = self;
-        close_rows(&mut n.row, body);
-        drop_rows(&mut n.column, body, matrix);
-        n.column[j] = 2;
+        close_rows(&mut self.row, body);
+        drop_rows(&mut self.column, body, matrix);
+        self.column[j] = 2;
         let bound = self.bound + self.cost[j];
-        n.bound = bound;
-        n
+        self.bound = bound;
+        self
     }
 
     // Column j no longer free.
-    pub fn leave(self, j: usize) -> Node
+    pub fn leave(mut self, j: usize) -> Node
         requires { ⌜ j < 256 ⌝ }
         ensures { λ r. ⌜ r ≡ leave self j ⌝ }
     {
-        let mut n = self;
-        n.column[j] = 0;
-        n
+        self.column[j] = 0;
+        self
     }
 }

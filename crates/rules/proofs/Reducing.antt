@@ -71,23 +71,24 @@ module _ (p : Matrix) where
     pub same-row : t .row ≡ s .row
     pub done : (i : ℕ) → Open p t i → leastOf p t i ≡ 0
 
+-- row b lowered by a
+module _ (p : Matrix) (F : FitsNode p) (s : Node) (b a : ℕ) where
+  lower-open : openRows p (lower p s b a) ≡ openRows p s
+  unfolding openRows lower
+  lower-open = refl
+
+  lower-free : (i : ℕ) → freeOf p (lower p s b a) i ≡ freeOf p s i
+  unfolding freeOf freeColumns lower
+  lower-free i = refl
+
+  -- no row's least cost rises
+  pub lower-least : (i : ℕ) → leastOf p (lower p s b a) i ≤ leastOf p s i
+  unfolding leastOf
+  lower-least i =
+      rw (lower-free i) (least-mono (costAt (lower p s b a)) (costAt s) (freeOf p s i)
+      (λ k m. omega (arith, cost-lower p F s b a k (free-in p s i k m .free .col))))
+
 module _ (p : Matrix) (F : FitsNode p) (G : Node → Type 0) (lowers : Lowers p G) where
-  -- row b lowered by a
-  module _ (s : Node) (b a : ℕ) where
-    lower-open : openRows p (lower p s b a) ≡ openRows p s
-    unfolding openRows lower
-    lower-open = refl
-
-    lower-free : (i : ℕ) → freeOf p (lower p s b a) i ≡ freeOf p s i
-    unfolding freeOf freeColumns lower
-    lower-free i = refl
-
-    lower-least : (i : ℕ) → leastOf p (lower p s b a) i ≤ leastOf p s i
-    unfolding leastOf
-    lower-least i =
-        rw (lower-free i) (least-mono (costAt (lower p s b a)) (costAt s) (freeOf p s i)
-        (λ k m. omega (arith, cost-lower p F s b a k (free-in p s i k m .free .col))))
-
   -- a candidate b, lowered by its least cost
   module _ (s : Node) (b : ℕ) (o : Open p s b) (a : 0 < leastOf p s b) where
     cheapest : (k : ℕ) × FreeIn p s b k × (leastOf p s b ≡ costAt s k)
@@ -106,7 +107,7 @@ module _ (p : Matrix) (F : FitsNode p) (G : Node → Type 0) (lowers : Lowers p 
         let k : ℕ = cheapest .0 in
         let f : FreeIn p s b k = cheapest .1 in
         let e : d ≡ costAt s k = cheapest .2 in
-        rw (lower-free s b d b) (omega (
+        rw (lower-free p F s b d b) (omega (
           arith,
           least-le (costAt (lower p s b d)) (freeOf p s b) k (in-free p s b k f),
           rw (f .free .is-free, f .covering) at (cost-lower p F s b d k (f .free .col)),
@@ -117,10 +118,10 @@ module _ (p : Matrix) (F : FitsNode p) (G : Node → Type 0) (lowers : Lowers p 
     least-falls =
         let d : ℕ = leastOf p s b in
         let t : Node = lower p s b d in
-        rw (lower-open s b d) (omega (
+        rw (lower-open p F s b d) (omega (
           arith,
           keep-lt (λ i. ltb 0 (leastOf p s i)) (λ i. ltb 0 (leastOf p t i)) (openRows p s) b
-              (λ i m h. lt-ltb 0 (leastOf p s i) (omega (arith, ltb-true 0 (leastOf p t i) h, lower-least s b d i)))
+              (λ i m h. lt-ltb 0 (leastOf p s i) (omega (arith, ltb-true 0 (leastOf p t i) h, lower-least p F s b d i)))
               (in-open p s b o) (lt-ltb 0 d a) (le-ltb 0 (leastOf p t b) lower-none),
         ))
 
