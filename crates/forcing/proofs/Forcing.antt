@@ -1,29 +1,30 @@
 -- Forcing is one step and then forcing, so the node at hand is forced to what the first one is. Each column taken was free and is so no
--- more, so it ends; and taking moves a cost from the free columns to the bound, so no sum is too large.
+-- more, so it ends; and taking keeps a node workable.
 use mathlib.Core.Path.{_≡_, refl, ap, sym, _∙_}
 use mathlib.Core.Bool.{Bool, true, false, cond, _&&_, false≢true}
 use mathlib.Core.List.{List, [], _∷_}
-use Prim.Native.Nat.{ℕ, _+_, _<_}
+use Prim.Native.Nat.{ℕ, _<_}
 use native.Mathlib.Omega.{arith}
 use lib.ListN.{length}
 use lib.Dec.{eqb}
 use borrow.Author.Tests.{eq-eqb}
 use Rattle.node.specs.declared.Node.{Node}
-use Rattle.node.specs.Lists.{on, keep, upto}
-use Rattle.node.specs.Matrix.{Matrix, width, meets}
-use Rattle.node.specs.Node.{mark, isFree, costAt, freeColumns, freeOf, openRows, take}
+use Rattle.node.specs.Lists.{keep, upto}
+use Rattle.node.specs.Matrix.{Matrix, meets}
+use Rattle.node.specs.Node.{mark, isFree, freeColumns, freeOf, openRows, take}
 use Rattle.node.specs.View.{view}
 use Rattle.node.specs.Stored.{matrixIn}
-use Rattle.node.specs.Taking.{Takes}
 use Rattle.node.proofs.Members.{at-table, keep-lt, member-upto, upto-lt}
 use Rattle.rules.specs.declared.Asked.{Asked}
 use Rattle.rules.specs.declared.Asked.the-variants.{Dead, Take, Settled}
-use Rattle.rules.specs.Force.{rowsWith, askedBy, asked, forceOn, force}
-use Rattle.rules.specs.Tree.{joined}
-use Rattle.rules.proofs.Sums.{total-one}
+use Rattle.rules.specs.declared.Goal.{Goal}
+use Rattle.rules.specs.Force.{rowsWith, askedBy, asked, forceOn}
+use Rattle.rules.specs.Tree.{Variant}
+use Rattle.rules.specs.Goals.{searchFor}
 use Rattle.rules.proofs.Plans.{Free}
 use Rattle.rules.proofs.Forcing.{asked-free, force-step}
-use Rattle.rules.proofs.Costs.{Workable, take-fair}
+use Rattle.rules.proofs.Goals.{WorkableFor, goal-settle, goal-steps}
+use Rattle.goals.specs.Taking.{Takes}
 
 -- how many marks are free: what falls with each step
 abbrev pub frees : Node → ℕ
@@ -65,63 +66,58 @@ asked-marks p n = go (rowsWith 0 p n) (rowsWith 1 p n)
     go [] [] = refl
 
 -- at node n
-pub record Forcing (s : Node) (l : List ℕ) (n : Node) : Type 0 where
-  pub some : Workable l n
-  pub left : force joined (matrixIn l) n ≡ force joined (matrixIn l) s
+pub record Forcing (g : Goal) (s : Node) (l : List ℕ) (n : Node) : Type 0 where
+  pub some : WorkableFor g l n
+  pub left : searchFor g (matrixIn l) .settle n ≡ searchFor g (matrixIn l) .settle s
 
-pub forcing-start : (s : Node) (l : List ℕ) → Workable l s → Forcing s l s
-forcing-start s l h = record { some = h; left = refl }
+pub forcing-start : (g : Goal) (s : Node) (l : List ℕ) → WorkableFor g l s → Forcing g s l s
+forcing-start g s l h = record { some = h; left = refl }
 
-module _ (s : Node) (l : List ℕ) (n : Node) (w : Forcing s l n) (found : Asked)
+module _ (g : Goal) (s : Node) (l : List ℕ) (n : Node) (w : Forcing g s l n) (found : Asked)
     (told : found ≡ asked (matrixIn l) (view [] (n .column) (n .row))) where
+  p : Matrix
+  p = matrixIn l
+
+  o : Variant
+  o = searchFor g (matrixIn l)
+
   is : found ≡ asked (matrixIn l) n
   is = told ∙ asked-marks (matrixIn l) n
 
-  step : forceOn joined found (matrixIn l) n (force joined (matrixIn l)) ≡ force joined (matrixIn l) s
+  step : forceOn (o .join) found p n (o .settle) ≡ o .settle s
+  unfolding p o
   step =
-      ap (λ (a : Asked). forceOn joined a (matrixIn l) n (force joined (matrixIn l))) is
-      ∙ sym (force-step (matrixIn l) (w .some .kept .small .fits) joined n) ∙ w .left
+      ap (λ (a : Asked). forceOn (o .join) a p n (o .settle)) is
+      ∙ rw (goal-settle g p) (sym (force-step p (w .some .kept .small .fits) (o .join) n))
+      ∙ w .left
 
   -- nothing is forced
-  pub forcing-dead : found ≡ Dead → record { node = n; alive = false } ≡ force joined (matrixIn l) s
-  unfolding forceOn
+  pub forcing-dead : found ≡ Dead → record { node = n; alive = false } ≡ searchFor g (matrixIn l) .settle s
+  unfolding forceOn p o
   forcing-dead h = rw h at step
 
-  pub forcing-settled : found ≡ Settled → record { node = n; alive = true } ≡ force joined (matrixIn l) s
-  unfolding forceOn
+  pub forcing-settled : found ≡ Settled → record { node = n; alive = true } ≡ searchFor g (matrixIn l) .settle s
+  unfolding forceOn p o
   forcing-settled h = rw h at step
 
   -- column j is forced
   module _ (j : ℕ) (h : found ≡ Take j) where
-    after : force joined (matrixIn l) (take (matrixIn l) n j (joined n j)) ≡ force joined (matrixIn l) s
-    unfolding forceOn
-    after = rw h at step
-
     free : Free (matrixIn l) n j
     free = asked-free (matrixIn l) (w .some .kept .small .fits) n j (sym is ∙ h)
 
-    pub forcing-takes : Takes n j l
-    forcing-takes = record {
-      kept = w .some .kept;
-      column = free .col;
-      room = omega (
-        arith,
-        w .some .fair .within,
-        rw (free .is-free) at (total-one (width (matrixIn l)) j (λ i. on (isFree n i) (costAt n i)) (free .col)),
-      );
-    }
+    pub forcing-takes : Takes g l n j
+    forcing-takes = record { some = w .some; free = free }
 
-    module _ (m : Node) (e : m ≡ take (matrixIn l) n j (n .bound + costAt n j)) where
+    module _ (m : Node) (e : m ≡ take (matrixIn l) n j (searchFor g (matrixIn l) .join n j)) where
       pub forcing-less : frees m < frees n
+      unfolding p o
       forcing-less =
           let few : j < 256 = omega (arith, free .col, w .some .kept .small .fits .wide) in
-          rw e (frees-less (matrixIn l) n j (joined n j) few (free .is-free))
+          rw e (frees-less p n j (o .join n j) few (free .is-free))
 
-      pub forcing-next : Forcing s l m
+      pub forcing-next : Forcing g s l m
+      unfolding forceOn p o
       forcing-next = record {
-        some = record {
-          kept = w .some .kept;
-          fair = rw e (take-fair (matrixIn l) (w .some .kept .small .fits) n j free (w .some .fair));
-        };
-        left = ap (force joined (matrixIn l)) e ∙ after;
+        some = rw e (goal-steps g l (w .some .kept) .taking n j free (w .some));
+        left = ap (o .settle) e ∙ rw h at step;
       }

@@ -1,19 +1,21 @@
 // Forcing (01, Forcing): what a row asks by its free columns, what the open rows ask together, and the columns taken until
 // nothing is forced.
+use goals::take_for;
 use node::Node;
 use node::row_count;
 use node::row_part;
 use rules::Asked;
 use rules::Forced;
+use rules::Goal;
 ghost use mathlib.Core.Path.{_≡_};
 ghost use mathlib.Core.List.{[]};
 ghost use lib.ListN.{length};
 ghost use Rattle.node.specs.Lists.{first};
 ghost use Rattle.node.specs.View.{view};
 ghost use Rattle.node.specs.Stored.{matrixIn, Kept, HasRow, Columns, rowColumns};
-ghost use Rattle.rules.specs.Force.{asked, force};
-ghost use Rattle.rules.specs.Tree.{joined};
-ghost use Rattle.rules.proofs.Costs.{Workable};
+ghost use Rattle.rules.specs.Force.{asked};
+ghost use Rattle.rules.specs.Goals.{searchFor};
+ghost use Rattle.rules.proofs.Goals.{WorkableFor};
 ghost use Rattle.forcing.specs.Rows.{freeIn, asksBy, sooner};
 
 // How many of some columns are free.
@@ -112,9 +114,9 @@ pub fn open_rows_ask<'a>(column: &'a [u8; 256], row: &'a [u8; 64], matrix: &[u16
 }
 
 // Takes what is forced until nothing is.
-pub fn force(mut s: Node, matrix: &[u16]) -> Forced
-    requires { ⌜ Workable (now matrix) s ⌝ }
-    ensures { λ r. ⌜ r ≡ force joined (matrixIn (now (matrix .entry))) s ⌝ }
+pub fn force(goal: Goal, mut s: Node, matrix: &[u16]) -> Forced
+    requires { ⌜ WorkableFor goal (now matrix) s ⌝ }
+    ensures { λ r. ⌜ r ≡ searchFor goal (matrixIn (now (matrix .entry))) .settle s ⌝ }
 {
     loop {
         let found = open_rows_ask(&s.column, &s.row, matrix);
@@ -132,7 +134,7 @@ pub fn force(mut s: Node, matrix: &[u16]) -> Forced
                 };
             }
             Asked::Take(j) => {
-                s = s.take(j, matrix);
+                s = take_for(goal, s, j, matrix);
             }
         }
     }

@@ -13,10 +13,10 @@ use borrow.Author.Tests.{eqb-true, eqb-false, eq-eqb, ne-eqb}
 use Rattle.node.specs.declared.Node.{Node}
 use Rattle.node.specs.Lists.{member, table}
 use Rattle.node.specs.Matrix.{Matrix, width, body, covers, meets}
-use Rattle.node.specs.Node.{mark, isFree, costAt, take, leave}
-use Rattle.node.specs.Stored.{Small, matrixIn, Body, HasBody, rowColumns}
+use Rattle.node.specs.Node.{mark, isFree, take, leave}
+use Rattle.node.specs.Stored.{Small, matrixIn, HasColumn, Body, HasBody, rowColumns}
 use Rattle.node.specs.Passes.{carry}
-use Rattle.node.specs.Taking.{closed, dropped, allDropped, rowsDropped, Takes}
+use Rattle.node.specs.Taking.{closed, dropped, allDropped, rowsDropped}
 use Rattle.node.proofs.Members.{same-bool, here, there, member-cases}
 use Rattle.node.proofs.Loops.{table-ext}
 use Rattle.node.proofs.Shares.{meets-at, meets-of}
@@ -171,12 +171,12 @@ module _ (p : Matrix) where
       let e : suc (m .0) - 1 ≡ m .0 = omega arith in
       in-rows (body p j) (suc (m .0)) k (m .2) (rw e (m .3)))
 
-  -- the node with column j taken, whose body is rs
-  pub taken-is : Small p → (s : Node) (j : ℕ) → j < width p → length (s .column) ≡ 256 → length (s .row) ≡ 64 →
+  -- the node with column j taken, whose body is rs, and b the bound from there on
+  pub taken-is : Small p → (s : Node) (j b : ℕ) → j < width p → length (s .column) ≡ 256 → length (s .row) ≡ 64 →
       (rs : List ℕ) → rs ≡ body p j → (column row : List ℕ) → row ≡ closed rs (s .row) → column ≡ rowsDropped p rs (s .column) →
-      record { cost = s .cost; column = set column j 2; row = row; bound = s .bound + costAt s j } ≡ take p s j (s .bound + costAt s j)
+      record { cost = s .cost; column = set column j 2; row = row; bound = b } ≡ take p s j b
   unfolding take gone covers
-  taken-is small s j l cl rl rs is column row re ce =
+  taken-is small s j v l cl rl rs is column row re ce =
       let n : length column ≡ 256 = ap length ce ∙ length-rows rs (s .column) ∙ cl in
       let f : ℕ → ℕ = λ k. cond (eqb k j) 2 (cond (isFree s k && meets p j k) 0 (mark s k)) in
       let g : ℕ → ℕ = λ i. cond (covers p i j) 0 (getD (s .row) i 0) in
@@ -197,7 +197,7 @@ left-is s j l =
     rw (table-ext 256 f (set (s .column) j 0) (length-set (s .column) j 0 ∙ l) (λ k b. set-at (s .column) 256 j 0 k l b))
 
 -- what the steps of taking ask of the body rs
-module _ (s : Node) (j : ℕ) (l : List ℕ) (t : Takes s j l) (rs : List ℕ) (is : rs ≡ body (matrixIn l) j) where
+module _ (j : ℕ) (l : List ℕ) (t : HasColumn l j) (rs : List ℕ) (is : rs ≡ body (matrixIn l) j) where
   pub taken-body : Body rs
   taken-body = rw is (body-rows (matrixIn l) (t .kept .small) j (t .column))
 

@@ -1,14 +1,12 @@
 -- What the steps of taking a column come to, on the tables that they change.
 use mathlib.Core.Bool.{cond}
 use mathlib.Core.List.{List}
-use Prim.Native.Nat.{ℕ, _+_, _-_, _<_}
+use Prim.Native.Nat.{ℕ, _-_}
 use lib.ListN.{getD, set}
 use lib.Dec.{eqb}
-use Rattle.node.specs.declared.Node.{Node}
 use Rattle.node.specs.Passes.{carry}
-use Rattle.node.specs.Matrix.{Matrix, width}
-use Rattle.node.specs.Node.{costAt}
-use Rattle.node.specs.Stored.{matrixIn, Kept, rowColumns}
+use Rattle.node.specs.Matrix.{Matrix}
+use Rattle.node.specs.Stored.{rowColumns}
 
 -- the rows of a body closed
 abbrev pub closed : List ℕ → List ℕ → List ℕ
@@ -25,9 +23,3 @@ allDropped js column = carry dropped column js
 -- the free columns of the rows of a body out
 abbrev pub rowsDropped : Matrix → List ℕ → List ℕ → List ℕ
 rowsDropped p rs column = carry (λ marks r. allDropped (rowColumns p (r - 1)) marks) column rs
-
--- a kept matrix has a column j, and its cost can be added to the bound
-pub record Takes (s : Node) (j : ℕ) (l : List ℕ) : Type 0 where
-  pub kept : Kept l
-  pub column : j < width (matrixIn l)
-  pub room : s .bound + costAt s j < 4294967296

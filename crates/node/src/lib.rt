@@ -3,9 +3,9 @@ ghost use mathlib.Core.Path.{_≡_};
 ghost use Prim.Native.Nat.{_+_, _≤_, _<_};
 ghost use lib.ListN.{length};
 ghost use Rattle.node.specs.Matrix.{width, body, span};
-ghost use Rattle.node.specs.Node.{costAt, take, leave};
+ghost use Rattle.node.specs.Node.{take, leave};
 ghost use Rattle.node.specs.Stored.{partAt, matrixIn, Part, Kept, HasRow, HasColumn, HasBody, Columns, Body, rowColumns};
-ghost use Rattle.node.specs.Taking.{closed, allDropped, rowsDropped, Takes};
+ghost use Rattle.node.specs.Taking.{closed, allDropped, rowsDropped};
 
 // A node of the tree (01: its open sailings, free duties and present prices, its taken duties and its floor).
 pub struct Node {
@@ -113,17 +113,16 @@ fn drop_rows(column: &mut [u8; 256], body: &[u16], matrix: &[u16])
 }
 
 impl Node {
-    // Column j taken (01: the step of forcing a duty): its cost joins the bound, its rows close, and every column that
+    // Column j taken (01: the step of forcing a duty), with the bound from there on: its rows close, and every column that
     // covers one of them is no longer free.
-    pub fn take(mut self, j: usize, matrix: &[u16]) -> Node
-        requires { ⌜ Takes self j (now matrix) ⌝ }
-        ensures { λ r. ⌜ r ≡ take (matrixIn (now (matrix .entry))) self j (self .bound + costAt self j) ⌝ }
+    pub fn take(mut self, j: usize, bound: u32, matrix: &[u16]) -> Node
+        requires { ⌜ HasColumn (now matrix) j ⌝ }
+        ensures { λ r. ⌜ r ≡ take (matrixIn (now (matrix .entry))) self j bound ⌝ }
     {
         let body = column_part(matrix, j);
         close_rows(&mut self.row, body);
         drop_rows(&mut self.column, body, matrix);
         self.column[j] = 2;
-        let bound = self.bound + self.cost[j];
         self.bound = bound;
         self
     }

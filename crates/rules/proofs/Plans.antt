@@ -22,6 +22,9 @@ use Rattle.rules.proofs.Sums.{length-keep}
 pub not-taken : (s : Node) (k : ℕ) → isFree s k ≡ true → isTaken s k ≡ false
 not-taken s k h = rw (eqb-true (mark s k) 1 h)
 
+pub not-free : (s : Node) (k : ℕ) → isTaken s k ≡ true → isFree s k ≡ false
+not-free s k h = rw (eqb-true (mark s k) 2 h)
+
 pub not-both : (s : Node) (k : ℕ) → (isFree s k && isTaken s k) ≡ false
 not-both s k = not-so (λ h. let b = and-both h in true≢false (sym (b .1) ∙ not-taken s k (b .0)))
 

@@ -15,7 +15,7 @@ use Rattle.node.specs.Node.{mark, isFree, isTaken, isOpen, freeColumns, take, l
 use Rattle.rules.specs.Identity.{Completion}
 use Rattle.node.proofs.Members.{at-table}
 use Rattle.rules.proofs.Sums.{total-cong, total-zero, total-at}
-use Rattle.rules.proofs.Plans.{Free, FreeIn, Sound, not-both, apart, clash}
+use Rattle.rules.proofs.Plans.{Free, FreeIn, Sound, not-taken, not-both, apart, clash}
 use Rattle.rules.proofs.Decide.{Decided, stays, goes, joins, gained, redo, undo, decided-sound, still-free, decided-less}
 
 -- what becomes of a mark as column j is taken
@@ -37,7 +37,7 @@ at-take p F s j b k l =
     go false true false e f g h = keeps (eqb-false k j e) (λ q. g) h
     go false false c e f g h = keeps (eqb-false k j e) (λ q. absurd (true≢false (sym q ∙ f))) h
 
-open-take : (p : Matrix) → FitsNode p → (s : Node) (j b i : ℕ) → i < p .rows
+pub open-take : (p : Matrix) → FitsNode p → (s : Node) (j b i : ℕ) → i < p .rows
     → isOpen (take p s j b) i ≡ (not (covers p i j) && isOpen s i)
 unfolding take
 open-take p F s j b i l =
@@ -68,6 +68,23 @@ module _ (p : Matrix) (F : FitsNode p) (s : Node) (j : ℕ) (f : Free p s j) (b 
       go k (itself q h) = rw (h, q, f .is-free, eq-eqb j j refl)
       go k (drops n q m h) = rw (h, ne-eqb k j n, and-false (isFree s k))
       go k (keeps n m h) = rw (h, ne-eqb k j n, not-both s k)
+
+  -- of the columns that were not taken, only column j is
+  pub take-self : isTaken (take p s j b) j ≡ true
+  take-self = go (at-take p F s j b j (f .col))
+    where
+      go : At-take p s j b j → isTaken (take p s j b) j ≡ true
+      go (itself q h) = rw h
+      go (drops n q m h) = absurd (n refl)
+      go (keeps n m h) = absurd (n refl)
+
+  pub take-other : (k : ℕ) → k < width p → (k ≡ j → ⊥) → isTaken (take p s j b) k ≡ isTaken s k
+  take-other k l n = go (at-take p F s j b k l)
+    where
+      go : At-take p s j b k → isTaken (take p s j b) k ≡ isTaken s k
+      go (itself q h) = absurd (n q)
+      go (drops m q w h) = rw h (sym (not-taken s k q))
+      go (keeps m w h) = rw h
 
   -- the completions of the taking branch are those with column j
   pub take-comp : (X : ℕ → Bool) → Completion p s X → X j ≡ true → Completion p (take p s j b) X
@@ -120,6 +137,13 @@ module _ (p : Matrix) (F : FitsNode p) (s : Node) (j : ℕ) (f : Free p s j) whe
       go : (b : Bool) → eqb k j ≡ b → mark (leave s j) k ≡ cond b 0 (mark s k) → Decided s (leave s j) k
       go true e h = goes (rw (eqb-true k j e) (f .is-free)) h
       go false e h = stays h
+
+  pub leave-taken : (k : ℕ) → k < width p → isTaken (leave s j) k ≡ isTaken s k
+  leave-taken k l = rw (leave-at k l) (go (eqb k j) refl)
+    where
+      go : (b : Bool) → eqb k j ≡ b → eqb (cond b 0 (mark s k)) 2 ≡ isTaken s k
+      go true e = sym (not-taken s k (rw (eqb-true k j e) (f .is-free)))
+      go false e = refl
 
   pub leave-gains : (v : ℕ → ℕ) → gained p s (leave s j) v ≡ 0
   leave-gains v =

@@ -9,7 +9,7 @@ use Rattle.node.specs.declared.Node.{Node}
 use Rattle.node.specs.Lists.{on}
 use Rattle.node.specs.Matrix.{Matrix, width, IsPlan, price}
 use Rattle.node.specs.Node.{isFree, costAt, root, take, leave}
-use Rattle.node.specs.Stored.{matrixIn, Kept, FitsNode}
+use Rattle.node.specs.Stored.{FitsNode}
 use Rattle.rules.specs.Reduce.{reduce}
 use Rattle.rules.specs.Tree.{joined, sum, live, answer}
 use Rattle.rules.specs.Demand.{Demand3}
@@ -17,7 +17,7 @@ use Rattle.rules.proofs.Sums.{total-one, total-zero}
 use Rattle.rules.proofs.Plans.{Free, Sound, root-comp}
 use Rattle.rules.proofs.Variants.{Stepping, Laws, plain-forces}
 use Rattle.rules.proofs.Demand.{demand-3}
-use Rattle.rules.proofs.Costs.{Good, Workable, root-good, take-good, leave-good, take-fair, leave-fair, lower-fair}
+use Rattle.rules.proofs.Costs.{Good, root-good, take-good, leave-good}
 use Rattle.rules.proofs.Reducing.{Lowers, Finished, least-free, reduce-done, good-lowers}
 
 none-at : (f x : Bool) (v : ℕ) → (f ≡ true → x ≡ false) → on (f && x) v ≡ 0
@@ -26,7 +26,7 @@ none-at false x v h = refl
 
 module _ (p : Matrix) (F : FitsNode p) where
   -- the steps keep what taking, leaving and lowering keep
-  sum-steps : (G : Node → Type 0) → ((s : Node) → G s → Sound p s)
+  pub sum-steps : (G : Node → Type 0) → ((s : Node) → G s → Sound p s)
       → ((s : Node) (j : ℕ) → Free p s j → G s → G (take p s j (joined s j)))
       → ((s : Node) (j : ℕ) → Free p s j → G s → G (leave s j)) → Lowers p G → Stepping p (sum p) (IsPlan p) G
   sum-steps G sound taking leaving lowers = record {
@@ -44,16 +44,6 @@ module _ (p : Matrix) (F : FitsNode p) where
           zero = λ i o l. let k = least-free p t i l in (k .0, k .1, sym (k .2) ∙ r .done i o);
         };
   }
-
--- what the code's steps ask is kept by the steps
-pub workable-steps : (l : List ℕ) → Kept l → Stepping (matrixIn l) (sum (matrixIn l)) (IsPlan (matrixIn l)) (Workable l)
-workable-steps l k =
-    let p : Matrix = matrixIn l in
-    let F : FitsNode p = k .small .fits in
-    sum-steps p F (Workable l) (λ s w. w .fair .sound)
-    (λ s j f w. record { kept = k; fair = take-fair p F s j f (w .fair) })
-    (λ s j f w. record { kept = k; fair = leave-fair p F s j f (w .fair) })
-    (λ s i a w o j f fits. record { kept = k; fair = lower-fair p F s i a (w .fair) j f fits })
 
 module _ (p : Matrix) (F : FitsNode p) (cs : List ℕ) where
   sum-laws : Laws p (sum p) (live (root p cs)) (IsPlan p) (price p cs) (Good p cs)

@@ -11,16 +11,17 @@ use Rattle.refusals.specs.Refusals.{fine, fault, accepted, refused, front, fill
 use Rattle.refusals.specs.declared.Refusal.{Refusal}
 use Rattle.refusals.proofs.Laws.{both, asked, stops-at, goes-on, unless-fine, unless-fault, fills}
 use Rattle.node.specs.Lists.{member}
-use Rattle.node.specs.Matrix.{Matrix, width, body, covers, IsPlan, Shows, Instance, price}
+use Rattle.node.specs.Matrix.{Matrix, width, body, covers, IsPlan, Shows}
 use Rattle.node.specs.declared.Node.{Node}
 use Rattle.node.specs.Node.{root}
 use Rattle.node.specs.Stored.{matrixIn, Small}
 use Rattle.node.proofs.Members.{member-at}
 use Rattle.rules.specs.Search.{Answer, plan, shownBy}
-use Rattle.rules.specs.Tree.{sum, live, answer}
-use Rattle.rules.specs.Demand.{Demand3}
+use Rattle.rules.specs.declared.Goal.{Goal}
+use Rattle.rules.specs.Tree.{live, answer}
+use Rattle.rules.specs.Goals.{searchFor, valueFor}
 use Rattle.rules.proofs.Plans.{plan-short}
-use Rattle.rules.proofs.Sum.{sum-demand-3}
+use Rattle.rules.proofs.Goals.{goal-root, goal-demand-3}
 use Rattle.dutyfile.specs.declared.Shape.{Shape}
 use Rattle.dutyfile.specs.File.{parse, instance}
 use Rattle.dutyfile.specs.Faults.{fileFault}
@@ -34,7 +35,8 @@ use Rattle.answer.specs.declared.SearchAnswer.the-variants.{Refused}
 use Rattle.answer.specs.Answer.{searchOutcome, valuesOf, planNumbers, seen}
 use Rattle.answer.specs.Plan.{PlanFits}
 use Rattle.answer.proofs.Given.{kept-shown}
-use Rattle.search.specs.Searching.{callFault, fileAnswer, searching, planList}
+use Rattle.search.specs.Searching.{callFault}
+use Rattle.search.specs.Goals.{answerFor, searchingFor, listFor, DemandFor}
 
 -- each column covers a row
 some-row : (p : Matrix) → Small p → (j : ℕ) → j < width p → (i : ℕ) × (i < p .rows) × (covers p i j ≡ true)
@@ -46,47 +48,41 @@ some-row p s j l =
     let e : suc (r - 1) ≡ r = omega (arith, w .0) in
     (r - 1, omega (arith, w .0, w .1), rw e m)
 
--- demand 3 of an answer for a file, and of the answer that is seen
-abbrev FileDemand : List ℕ → ℕ → Answer → Type 0
-FileDemand file limit x =
-    let p : Instance = instance (parse file) in
-    let m : Matrix = p .matrix in
-    Demand3 m (sum m) (live (root m (p .costs))) (IsPlan m) (price m (p .costs)) limit x
-
-abbrev Demanded : List ℕ → ℕ → SearchAnswer → List ℕ → Type 0
-Demanded file limit r list = (x : Answer) → seen r list ≡ accepted x → FileDemand file limit x
+-- demand 3 of the answer that is seen
+abbrev Demanded : Goal → List ℕ → ℕ → SearchAnswer → List ℕ → Type 0
+Demanded g file limit r list = (x : Answer) → seen r list ≡ accepted x → DemandFor g file limit x
 
 -- of a refusal no answer is seen
-pub refused-demand : (s : List ℕ) (limit : ℕ) (why : Refusal) (list : List ℕ) → Demanded s limit (Refused why) list
+pub refused-demand : (g : Goal) (s : List ℕ) (limit : ℕ) (why : Refusal) (list : List ℕ) → Demanded g s limit (Refused why) list
 unfolding seen
-refused-demand s limit why list = λ x e. absurd (let z : _≡_ {A = ℕ} 0 1 = cc in omega arith)
+refused-demand g s limit why list = λ x e. absurd (let z : _≡_ {A = ℕ} 0 1 = cc in omega arith)
 
-module _ (s : List ℕ) (limit places : ℕ) where
-  pub refused-file : (k : ℕ) → fileFault s ≡ fault k → refused k ≡ searching s limit places
-  unfolding searching
+module _ (g : Goal) (s : List ℕ) (limit places : ℕ) where
+  pub refused-file : (k : ℕ) → fileFault s ≡ fault k → refused k ≡ searchingFor g s limit places
+  unfolding searchingFor
   refused-file k h = unless-fault _ k (stops-at k _ h)
 
   module _ (found : Shape) (l costs : List ℕ) (k : Loaded s found l costs) where
-    pub refused-call : (n : ℕ) → callFault found places limit ≡ fault n → refused n ≡ searching s limit places
-    unfolding searching
+    pub refused-call : (n : ℕ) → callFault found places limit ≡ fault n → refused n ≡ searchingFor g s limit places
+    unfolding searchingFor
     refused-call n h = unless-fault _ n (goes-on _ (k .passes) ∙ rw (sym (k .shape-is)) at h)
 
     module _ (fits : callFault found places limit ≡ fine) (first : Node) (is : first ≡ root (matrixIn l) costs) where
-      pub searchable : Searchable l first limit
+      pub searchable : Searchable g l first limit
       unfolding callFault
-      searchable = record { some = rw is (k .workable); limited = ask-within 1 1000000 limit 11 (both _ _ fits .1) .most }
+      searchable = record { some = rw is (goal-root g l costs (k .workable)); limited = ask-within 1 1000000 limit 11 (both _ _ fits .1) .most }
 
-      module _ (done : Solved) (ends : solvedAnswer (width (matrixIn l)) done ≡ answer (sum (matrixIn l)) (matrixIn l) (live first) limit) where
-        answers : solvedAnswer (found .columns) done ≡ fileAnswer s limit
-        unfolding fileAnswer instance
+      module _ (done : Solved) (ends : solvedAnswer (width (matrixIn l)) done ≡ answer (searchFor g (matrixIn l)) (matrixIn l) (live first) limit) where
+        answers : solvedAnswer (found .columns) done ≡ answerFor g s limit
+        unfolding answerFor instance
         answers = rw (← k .columns-is) (ends ∙ rw (is ∙ k .root-is, k .is))
 
         small : Small (instance (parse s) .matrix)
         small = rw (k .is) at (k .kept .small)
 
-        demand : FileDemand s limit (fileAnswer s limit)
-        unfolding fileAnswer
-        demand = sum-demand-3 _ (small .fits) _ limit
+        demand : DemandFor g s limit (answerFor g s limit)
+        unfolding answerFor
+        demand = goal-demand-3 g _ (small .fits) _ limit
 
         pub plan-fits : PlanFits done (found .columns) places
         unfolding callFault instance
@@ -95,24 +91,24 @@ module _ (s : List ℕ) (limit places : ℕ) where
           room = λ h.
               let p : Matrix = instance (parse s) .matrix in
               let js : List ℕ = takenIn (found .columns) (done .tally .plan) in
-              let e : shownBy (fileAnswer s limit) ≡ plan (done .tally .cost) js = rw answers at (kept-shown (found .columns) done h) in
-              let w : Shows p (IsPlan p) (price p (parse s .costs)) (done .tally .cost) js = demand .shown _ _ e in
+              let e : shownBy (answerFor g s limit) ≡ plan (done .tally .cost) js = rw answers at (kept-shown (found .columns) done h) in
+              let w : Shows p (IsPlan p) (valueFor g p (parse s .costs)) (done .tally .cost) js = demand .shown _ _ e in
               let r : found .rows ≤ places = leb-true _ _ (asked _ 10 (both _ _ fits .0)) in
               omega (arith, plan-short p (some-row p small) js (w .listed) (w .ok), rw (k .is) at (k .rows-is), r);
         }
 
         module _ (r : SearchAnswer) (told : searchOutcome r ≡ accepted (valuesOf (solvedAnswer (found .columns) done))) where
-          pub given-answer : searchOutcome r ≡ searching s limit places
-          unfolding searching
-          given-answer = told ∙ rw answers (unless-fine (valuesOf (fileAnswer s limit)) (goes-on _ (k .passes) ∙ rw (sym (k .shape-is)) at fits))
+          pub given-answer : searchOutcome r ≡ searchingFor g s limit places
+          unfolding searchingFor
+          given-answer = told ∙ rw answers (unless-fine (valuesOf (answerFor g s limit)) (goes-on _ (k .passes) ∙ rw (sym (k .shape-is)) at fits))
 
           pub given-plan : (new old : List ℕ) → new ≡ front (planNumbers (shownBy (solvedAnswer (found .columns) done))) old →
-              new ≡ filled (searchOutcome r) (planList s limit) old
-          unfolding planList
-          given-plan new old h = rw answers at h ∙ sym (fills _ (planList s limit) old told)
+              new ≡ filled (searchOutcome r) (listFor g s limit) old
+          unfolding listFor
+          given-plan new old h = rw answers at h ∙ sym (fills _ (listFor g s limit) old told)
 
-        pub given-demand : (r : SearchAnswer) (list : List ℕ) → seen r list ≡ accepted (solvedAnswer (found .columns) done) → Demanded s limit r list
+        pub given-demand : (r : SearchAnswer) (list : List ℕ) → seen r list ≡ accepted (solvedAnswer (found .columns) done) → Demanded g s limit r list
         given-demand r list h = λ x q.
-            let z : accepted x ≡ accepted (fileAnswer s limit) = sym q ∙ rw answers at h in
-            let y : fileAnswer s limit ≡ x = cc in
+            let z : accepted x ≡ accepted (answerFor g s limit) = sym q ∙ rw answers at h in
+            let y : answerFor g s limit ≡ x = cc in
             rw y at demand

@@ -2,15 +2,16 @@
 use mathlib.Core.List.{List}
 use Prim.Native.Nat.{ℕ, _≤_}
 use Rattle.node.specs.declared.Node.{Node}
+use Rattle.rules.specs.declared.Goal.{Goal}
 use Rattle.rules.specs.Search.{Answer}
 use Rattle.rules.specs.Limited.{answerFrom}
-use Rattle.rules.proofs.Costs.{Workable}
+use Rattle.rules.proofs.Goals.{WorkableFor}
 use Rattle.visit.specs.Tally.{shown}
 use Rattle.solver.specs.declared.Solved.{Solved}
 
 -- a workable first node, and a node limit that is not too large
-pub record Searchable (l : List ℕ) (s : Node) (limit : ℕ) : Type 0 where
-  pub some : Workable l s
+pub record Searchable (g : Goal) (l : List ℕ) (s : Node) (limit : ℕ) : Type 0 where
+  pub some : WorkableFor g l s
   pub limited : limit ≤ 1000000
 
 -- the answer that a tally and a bound give, of a matrix with w columns

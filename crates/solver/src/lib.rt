@@ -1,12 +1,14 @@
 // The search of a matrix from a first node: the tally of the walk within a node limit, and the first node's lower bound.
 use node::Node;
+use rules::Goal;
 use visit::Tally;
 use visit::fresh_tally;
 use visit::settled_bound;
 ghost use mathlib.Core.Path.{_≡_};
 ghost use Rattle.node.specs.Matrix.{Matrix, width};
 ghost use Rattle.node.specs.Stored.{matrixIn};
-ghost use Rattle.rules.specs.Tree.{sum, live, answer};
+ghost use Rattle.rules.specs.Tree.{live, answer};
+ghost use Rattle.rules.specs.Goals.{searchFor};
 ghost use Rattle.solver.specs.Solved.{Searchable, solvedAnswer};
 
 // A walk's tally at its end, and the first node's lower bound.
@@ -16,14 +18,14 @@ pub struct Solved {
     pub bound: u32,
 }
 
-// Searches a matrix from a first node within a node limit.
-pub fn search_from(first: Node, matrix: &[u16], limit: u32) -> Solved
-    requires { ⌜ Searchable (now matrix) first limit ⌝ }
-    ensures { λ r. ⌜ (let p : Matrix = matrixIn (now (matrix .entry)) in solvedAnswer (width p) r ≡ answer (sum p) p (live first) limit) ⌝ }
+// Searches a matrix for a goal, from a first node within a node limit.
+pub fn search_from(goal: Goal, first: Node, matrix: &[u16], limit: u32) -> Solved
+    requires { ⌜ Searchable goal (now matrix) first limit ⌝ }
+    ensures { λ r. ⌜ (let p : Matrix = matrixIn (now (matrix .entry)) in solvedAnswer (width p) r ≡ answer (searchFor goal p) p (live first) limit) ⌝ }
 {
-    let bound = settled_bound(first, matrix);
+    let bound = settled_bound(goal, first, matrix);
     let fresh = fresh_tally(limit);
-    let tally = tree::node(first, fresh, matrix);
+    let tally = tree::node(goal, first, fresh, matrix);
     Solved {
         tally: tally,
         bound: bound,

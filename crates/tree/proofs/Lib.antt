@@ -1,3 +1,4 @@
 pub mod Settles
 pub mod Choosing
+mod Tables
 pub mod Walking

@@ -8,20 +8,21 @@ use native.Mathlib.Omega.{arith}
 use lib.Dec.{leb}
 use borrow.Author.Tests.{eq-eqb, ne-eqb}
 use Rattle.node.specs.declared.Node.{Node}
-use Rattle.node.specs.Lists.{on}
 use Rattle.node.specs.Matrix.{Matrix, width, IsPlan}
-use Rattle.node.specs.Node.{isFree, costAt, taken, take, leave}
+use Rattle.node.specs.Node.{taken, take, leave}
 use Rattle.node.specs.Stored.{matrixIn, FitsNode}
-use Rattle.node.specs.Taking.{Takes}
-use Rattle.rules.specs.Search.{Incumbent, reaches, Visit, ended, full}
+use Rattle.rules.specs.Search.{Incumbent, reaches, Visit, ended, full, split}
 use Rattle.rules.specs.Limited as rules
 use Rattle.rules.specs.Limited.{entered, halted, offered, onward, proceed, admit, limited}
-use Rattle.rules.specs.Tree.{Variant, joined, sum, visit}
-use Rattle.rules.proofs.Sums.{total-one}
+use Rattle.rules.specs.declared.Goal.{Goal}
+use Rattle.rules.specs.Tree.{Variant, visit}
+use Rattle.rules.specs.Goals.{searchFor}
+use Rattle.rules.proofs.Plans.{Free}
 use Rattle.rules.proofs.Rows.{size}
 use Rattle.rules.proofs.Steps.{take-less, leave-less}
-use Rattle.rules.proofs.Costs.{Workable}
-use Rattle.rules.proofs.Sum.{workable-steps}
+use Rattle.rules.proofs.Variants.{Stepping}
+use Rattle.rules.proofs.Goals.{WorkableFor, goal-steps}
+use Rattle.goals.specs.Taking.{Takes}
 use Rattle.visit.specs.declared.Tally.{Tally}
 use Rattle.visit.specs.declared.Settled.{Settled}
 use Rattle.visit.specs.Tally.{takenIn, keptIn, shown}
@@ -29,8 +30,9 @@ use Rattle.visit.specs.Settled.{settled}
 use Rattle.visit.proofs.Offers.{reached}
 use Rattle.visit.proofs.Settling.{settled-workable}
 use Rattle.tree.specs.declared.Choice.{Choice}
-use Rattle.tree.specs.Walks.{Walks, Branching, Chosen, branches}
+use Rattle.tree.specs.Walks.{Walks, Branching, branches, choiceOf}
 use Rattle.tree.proofs.Settles.{Settles, settles}
+use Rattle.tree.proofs.Choosing.{chosen-free, chosen-splits}
 
 -- what follows the first branch: nothing where the walk is stopped or the second one's bound is reached
 module _ (r : Bool) (T : rules.Tally) (w : rules.Tally → rules.Tally) where
@@ -122,93 +124,87 @@ module _ (o : Variant) (p : Matrix) (s : Node) (t : Tally) where
         node-branches h r e (suc f) l = e f (omega (arith, c .less)) ∙ step f (branches o p (x .node)) (rw h at visits)
 
 -- a workable node, settled
-module _ (l : List ℕ) (s : Node) (t : Tally) (w : Walks l s t) (x : Settled) (told : x ≡ settled (sum (matrixIn l)) (matrixIn l) s) where
-  pub comes : Settles (sum (matrixIn l)) (matrixIn l) s x
+module _ (g : Goal) (l : List ℕ) (s : Node) (t : Tally) (w : Walks g l s t) (x : Settled)
+    (told : x ≡ settled (searchFor g (matrixIn l)) (matrixIn l) s) where
+  pub comes : Settles (searchFor g (matrixIn l)) (matrixIn l) s x
   comes =
       let p : Matrix = matrixIn l in
-      rw told (settles (sum p) p (IsPlan p) (Workable l) (workable-steps l (w .some .kept)) s (w .some))
+      rw told (settles (searchFor g p) p (IsPlan p) (WorkableFor g l) (goal-steps g l (w .some .kept)) s (w .some))
 
-  pub can-branch : (u : Tally) → u .nodes + u .left ≡ t .nodes + t .left → x .alive ≡ true → x .full ≡ false → Branching l (x .node) u
+  pub can-branch : (u : Tally) → u .nodes + u .left ≡ t .nodes + t .left → x .alive ≡ true → x .full ≡ false → Branching g l (x .node) u
   can-branch u e alive part = record {
-    node = record { some = settled-workable l s (w .some) x told; splits = comes .splits alive part };
+    node = record { some = settled-workable g l s (w .some) x told; splits = comes .splits alive part };
     count = omega (arith, e, w .count);
   }
 
 -- the branches of s on a column
-module _ (l : List ℕ) (s : Node) (t : Tally) (w : Branching l s t) (c : Choice) (told : Chosen (matrixIn l) s c) where
-  p : Matrix
+module _ (g : Goal) (l : List ℕ) (s : Node) (t : Tally) (w : Branching g l s t) (c : Choice)
+    (told : c ≡ choiceOf (searchFor g (matrixIn l)) (matrixIn l) s) where
+  abbrev p : Matrix
   p = matrixIn l
 
-  o : Variant
-  o = sum (matrixIn l)
+  abbrev o : Variant
+  o = searchFor g p
 
-  j : ℕ
+  abbrev j : ℕ
   j = c .column
 
-  F : FitsNode (matrixIn l)
+  F : FitsNode p
   F = w .node .some .kept .small .fits
 
-  pub column-low : c .column < 256
-  column-low = omega (arith, told .free .col, F .wide)
+  S : Stepping p o (IsPlan p) (WorkableFor g l)
+  S = goal-steps g l (w .node .some .kept)
 
-  pub can-take : Takes s (c .column) l
-  can-take = record {
-    kept = w .node .some .kept;
-    column = told .free .col;
-    room = omega (
-      arith,
-      w .node .some .fair .within,
-      rw (told .free .is-free) at (total-one (width (matrixIn l)) (c .column) (λ i. on (isFree s i) (costAt s i)) (told .free .col)),
-    );
-  }
+  free : Free p s j
+  free = rw told (chosen-free o p s (w .node .splits))
+
+  parts : branches o p s ≡ split (take p s j (o .join s j)) (leave s j) (c .bound)
+  parts = rw told (chosen-splits o p s (w .node .splits))
+
+  pub column-low : c .column < 256
+  column-low = omega (arith, free .col, F .wide)
+
+  pub can-take : Takes g l s (c .column)
+  can-take = record { some = w .node .some; free = free }
 
   -- a takes it, z leaves it
-  module _ (a : Node) (with : a ≡ take (matrixIn l) s (c .column) (s .bound + costAt s (c .column))) where
+  module _ (a : Node) (with : a ≡ take (matrixIn l) s (c .column) (searchFor g (matrixIn l) .join s (c .column))) where
     pub first-falls : size (matrixIn l) a < size (matrixIn l) s
-    first-falls = rw with (take-less (matrixIn l) F s (c .column) (told .free) (joined s (c .column)))
+    first-falls = rw with (take-less p F s j free (o .join s j))
 
-    pub first-walks : Walks l a t
-    first-walks = record {
-      some = rw with (workable-steps l (w .node .some .kept) .taking s (c .column) (told .free) (w .node .some));
-      count = w .count;
-    }
+    pub first-walks : Walks g l a t
+    first-walks = record { some = rw with (S .taking s j free (w .node .some)); count = w .count }
 
-    module _ (u : Tally) (walked : NodeTo (sum (matrixIn l)) (matrixIn l) a t u) where
+    module _ (u : Tally) (walked : NodeTo (searchFor g (matrixIn l)) (matrixIn l) a t u) where
       -- after the first branch
-      onwards : (f : ℕ) → size (matrixIn l) s ≤ f →
+      onwards : (f : ℕ) → size p s ≤ f →
           onward (u .stopped) (reaches (c .bound) (keptIn (width p) u)) (shown (width p) u) (limited (visit o p) f (leave s j))
           ≡ proceed (branches o p s) (shown (width p) t) (limited (visit o p) f)
-      unfolding proceed p o j
+      unfolding proceed
       onwards f h =
-          let e : shown (width p) u ≡ limited (visit o p) f (take p s j (joined s j)) (shown (width p) t) =
+          let e : shown (width p) u ≡ limited (visit o p) f (take p s j (o .join s j)) (shown (width p) t) =
           rw with at (walked f (omega (arith, first-falls))) in
-          rw (told .splits, ← e)
+          rw (parts, ← e)
 
-      pub branch-stops : u .stopped ≡ true → BranchTo (sum (matrixIn l)) (matrixIn l) s t u
-      unfolding p o j
-      branch-stops h f g = onward-stops _ _ _ (u .stopped) h ∙ onwards f g
+      pub branch-stops : u .stopped ≡ true → BranchTo (searchFor g (matrixIn l)) (matrixIn l) s t u
+      branch-stops h f q = onward-stops _ _ _ (u .stopped) h ∙ onwards f q
 
       module _ (on : u .stopped ≡ false) (y : Bool) (is : y ≡ (u .kept && leb (u .cost) (c .bound))) where
         meets : y ≡ reaches (c .bound) (keptIn (width p) u)
         meets = is ∙ reached (u .cost) (c .bound) (takenIn (width p) (u .plan)) (u .kept)
 
-        pub branch-reached : y ≡ true → BranchTo (sum (matrixIn l)) (matrixIn l) s t u
-        unfolding p o j
-        branch-reached h f g = onward-reached _ _ _ (u .stopped) on (sym meets ∙ h) ∙ onwards f g
+        pub branch-reached : y ≡ true → BranchTo (searchFor g (matrixIn l)) (matrixIn l) s t u
+        branch-reached h f q = onward-reached _ _ _ (u .stopped) on (sym meets ∙ h) ∙ onwards f q
 
-        pub branch-goes : y ≡ false → (z : Node) → z ≡ leave s (c .column) → (r : Tally) → NodeTo (sum (matrixIn l)) (matrixIn l) z u r →
-            BranchTo (sum (matrixIn l)) (matrixIn l) s t r
-        unfolding p o j
-        branch-goes h z e r v f g =
-            (rw e at (v f (rw e (omega (arith, leave-less (matrixIn l) F s (c .column) (told .free))))))
-            ∙ onward-goes _ _ _ (u .stopped) on (sym meets ∙ h) ∙ onwards f g
+        pub branch-goes : y ≡ false → (z : Node) → z ≡ leave s (c .column) → (r : Tally) → NodeTo (searchFor g (matrixIn l)) (matrixIn l) z u r →
+            BranchTo (searchFor g (matrixIn l)) (matrixIn l) s t r
+        branch-goes h z e r v f q =
+            (rw e at (v f (rw e (omega (arith, leave-less p F s j free)))))
+            ∙ onward-goes _ _ _ (u .stopped) on (sym meets ∙ h) ∙ onwards f q
 
   module _ (z : Node) (e : z ≡ leave s (c .column)) where
     pub second-falls : size (matrixIn l) z < size (matrixIn l) s
-    second-falls = rw e (leave-less (matrixIn l) F s (c .column) (told .free))
+    second-falls = rw e (leave-less p F s j free)
 
-    pub second-walks : (u : Tally) → u .nodes + u .left ≡ t .nodes + t .left → Walks l z u
-    second-walks u q = record {
-      some = rw e (workable-steps l (w .node .some .kept) .leaving s (c .column) (told .free) (w .node .some));
-      count = omega (arith, w .count);
-    }
+    pub second-walks : (u : Tally) → u .nodes + u .left ≡ t .nodes + t .left → Walks g l z u
+    second-walks u q = record { some = rw e (S .leaving s j free (w .node .some)); count = omega (arith, w .count) }

@@ -2,7 +2,10 @@
 use choice::branch_row;
 use choice::without_bound;
 use columns::branch_column;
+use goals::present;
+use goals::take_for;
 use node::Node;
+use rules::Goal;
 use visit::Settled;
 use visit::Tally;
 use visit::enter;
@@ -17,31 +20,32 @@ ghost use Rattle.node.specs.View.{nodeOf};
 ghost use Rattle.node.specs.Stored.{matrixIn};
 ghost use Rattle.rules.specs.Limited.{proceed, limited};
 ghost use Rattle.rules.specs.Tree.{sum, visit};
-ghost use Rattle.rules.proofs.Costs.{Workable};
+ghost use Rattle.rules.specs.Goals.{searchFor};
+ghost use Rattle.rules.proofs.Goals.{WorkableFor};
 ghost use Rattle.rules.proofs.Rows.{size};
 ghost use Rattle.visit.specs.Tally.{shown};
 ghost use Rattle.visit.specs.Settled.{settled};
-ghost use Rattle.tree.specs.Walks.{Walks, Branches, Branching, branches, Chosen};
+ghost use Rattle.tree.specs.Walks.{Walks, Branching, branches, choiceOf, Choosable, Chooses};
 
 // Settles a node. A function of its own, so that the copy of the node that is handed on takes no room while the branches are walked.
-fn settle_node(s: Node, matrix: &[u16]) -> Settled
-    requires { ⌜ Workable (now matrix) s ⌝ }
-    ensures { λ r. ⌜ r ≡ settled (sum (matrixIn (now (matrix .entry)))) (matrixIn (now (matrix .entry))) s ⌝ }
+fn settle_node(goal: Goal, s: Node, matrix: &[u16]) -> Settled
+    requires { ⌜ WorkableFor goal (now matrix) s ⌝ }
+    ensures { λ r. ⌜ r ≡ settled (searchFor goal (matrixIn (now (matrix .entry)))) (matrixIn (now (matrix .entry))) s ⌝ }
 {
-    settle(s, matrix)
+    settle(goal, s, matrix)
 }
 
 // A node with all below it, entered if one is left of the node limit.
-pub fn node(s: Node, t: Tally, matrix: &[u16]) -> Tally
-    requires { ⌜ Walks (now matrix) s t ⌝ }
-    ensures tree { λ r. ⌜ (let p : Matrix = matrixIn (now (matrix .entry)) in (f : ℕ) → size p s < f → shown (width p) r ≡ limited (visit (sum p) p) f s (shown (width p) t)) ⌝ }
+pub fn node(goal: Goal, s: Node, t: Tally, matrix: &[u16]) -> Tally
+    requires { ⌜ Walks goal (now matrix) s t ⌝ }
+    ensures tree { λ r. ⌜ (let p : Matrix = matrixIn (now (matrix .entry)) in (f : ℕ) → size p s < f → shown (width p) r ≡ limited (visit (searchFor goal p) p) f s (shown (width p) t)) ⌝ }
     ensures sum { λ r. ⌜ r .nodes + r .left ≡ t .nodes + t .left ⌝ }
 {
     if t.left == 0 {
         return halt(t);
     }
     let u = enter(t);
-    let found = settle_node(s, matrix);
+    let found = settle_node(goal, s, matrix);
     if !found.alive {
         return u;
     }
@@ -52,7 +56,7 @@ pub fn node(s: Node, t: Tally, matrix: &[u16]) -> Tally
     if is_reached(n.bound, u.kept, u.cost) {
         return u;
     }
-    branch(n, u, matrix)
+    branch(goal, n, u, matrix)
 }
 
 // What a node branches on.
@@ -63,7 +67,7 @@ struct Choice {
     bound: u32,
 }
 
-// Chooses the row and the column to branch on, of a node with these tables and bound.
+// Chooses the row and the column to branch on, of a node with these tables of present costs and marks and this bound.
 fn choose<'a>(
     cost: &'a [u32; 256],
     column: &'a [u8; 256],
@@ -71,8 +75,8 @@ fn choose<'a>(
     bound: u32,
     matrix: &[u16],
 ) -> Choice
-    requires { ⌜ Branches (now matrix) (nodeOf (now cost) (now column) (now row) bound) ⌝ }
-    ensures { λ r. ⌜ Chosen (matrixIn (now (matrix .entry))) (nodeOf (now (cost .entry)) (now (column .entry)) (now (row .entry)) bound) r ⌝ }
+    requires { ⌜ Choosable (now matrix) (nodeOf (now cost) (now column) (now row) bound) ⌝ }
+    ensures { λ r. ⌜ (let p : Matrix = matrixIn (now (matrix .entry)) in r ≡ choiceOf (sum p) p (nodeOf (now (cost .entry)) (now (column .entry)) (now (row .entry)) bound)) ⌝ }
 {
     let best = branch_row(cost, column, row, matrix);
     let i = best.row as usize;
@@ -83,16 +87,37 @@ fn choose<'a>(
     }
 }
 
+// Chooses by the goal: the costs in a node are the present ones for the sum, and for the longest duty the present ones are made.
+fn choose_for<'a>(
+    goal: Goal,
+    cost: &'a [u32; 256],
+    column: &'a [u8; 256],
+    row: &'a [u8; 64],
+    bound: u32,
+    matrix: &[u16],
+) -> Choice
+    requires { ⌜ Chooses goal (now matrix) (nodeOf (now cost) (now column) (now row) bound) ⌝ }
+    ensures { λ r. ⌜ (let p : Matrix = matrixIn (now (matrix .entry)) in r ≡ choiceOf (searchFor goal p) p (nodeOf (now (cost .entry)) (now (column .entry)) (now (row .entry)) bound)) ⌝ }
+{
+    match goal {
+        Goal::Sum => choose(cost, column, row, bound, matrix),
+        Goal::Longest => {
+            let net = present(cost, bound);
+            choose(&net, column, row, bound, matrix)
+        }
+    }
+}
+
 // The branch that takes a column, with all below it, and then the one without it.
-fn branch(s: Node, mut t: Tally, matrix: &[u16]) -> Tally
-    requires { ⌜ Branching (now matrix) s t ⌝ }
-    ensures tree { λ r. ⌜ (let p : Matrix = matrixIn (now (matrix .entry)) in (f : ℕ) → size p s ≤ f → shown (width p) r ≡ proceed (branches (sum p) p s) (shown (width p) t) (limited (visit (sum p) p) f)) ⌝ }
+fn branch(goal: Goal, s: Node, mut t: Tally, matrix: &[u16]) -> Tally
+    requires { ⌜ Branching goal (now matrix) s t ⌝ }
+    ensures tree { λ r. ⌜ (let p : Matrix = matrixIn (now (matrix .entry)) in (f : ℕ) → size p s ≤ f → shown (width p) r ≡ proceed (branches (searchFor goal p) p s) (shown (width p) t) (limited (visit (searchFor goal p) p) f)) ⌝ }
     ensures sum { λ r. ⌜ r .nodes + r .left ≡ t .nodes + t .left ⌝ }
 {
-    let chosen = choose(&s.cost, &s.column, &s.row, s.bound, matrix);
+    let chosen = choose_for(goal, &s.cost, &s.column, &s.row, s.bound, matrix);
     let j = chosen.column;
-    let mut child = s.take(j, matrix);
-    let u = node(child, t, matrix);
+    let mut child = take_for(goal, s, j, matrix);
+    let u = node(goal, child, t, matrix);
     if u.stopped {
         return u;
     }
@@ -100,6 +125,6 @@ fn branch(s: Node, mut t: Tally, matrix: &[u16]) -> Tally
         return u;
     }
     child = s.leave(j);
-    t = node(child, u, matrix);
+    t = node(goal, child, u, matrix);
     t
 }

@@ -1,21 +1,19 @@
--- Settling a node is forcing it and, where it is alive with open rows, reducing it. Forcing keeps a node fair, so that it can be reduced.
+-- Settling a node is forcing it and, where it is alive with open rows, reducing it. Forcing keeps a node workable, so that it can be reduced.
 use mathlib.Core.Path.{_≡_, refl, ap, sym, _∙_}
 use mathlib.Core.Bool.{Bool, true, false, cond, false≢true, true≢false}
 use mathlib.Core.List.{List, [], _∷_}
 use Prim.Native.Nat.{ℕ}
-use lib.Dec.{ltb}
 use Rattle.node.specs.declared.Node.{Node}
-use Rattle.node.specs.Lists.{isEmpty, keep}
+use Rattle.node.specs.Lists.{isEmpty}
 use Rattle.node.specs.Matrix.{Matrix}
 use Rattle.node.specs.Node.{openRows}
 use Rattle.node.specs.View.{view}
 use Rattle.node.specs.Stored.{matrixIn, FitsNode}
 use Rattle.rules.specs.declared.Forced.{Forced}
-use Rattle.rules.specs.Reduce.{leastOf, candidates, reduce}
-use Rattle.rules.specs.Tree.{Variant, sum, live, rootBound}
-use Rattle.rules.proofs.Costs.{Workable}
-use Rattle.rules.proofs.Reducing.{reduced-none}
-use Rattle.rules.proofs.Sum.{workable-steps}
+use Rattle.rules.specs.declared.Goal.{Goal}
+use Rattle.rules.specs.Tree.{Variant, live, rootBound}
+use Rattle.rules.specs.Goals.{searchFor}
+use Rattle.rules.proofs.Goals.{WorkableFor, goal-steps, lowered-none}
 use Rattle.visit.specs.declared.Settled.{Settled}
 use Rattle.visit.specs.Settled.{settledBy, settled}
 
@@ -51,57 +49,59 @@ module _ (o : Variant) (p : Matrix) (s : Node) (forced : Forced) (told : forced 
     settle-open h n d = rw d (open-some o (forced .node) (openRows p (forced .node)) (sym h ∙ full) ∙ by true e)
 
 -- a node forced or settled is workable where it was
-module _ (l : List ℕ) (s : Node) (w : Workable l s) where
+module _ (g : Goal) (l : List ℕ) (s : Node) (w : WorkableFor g l s) where
   o : Variant
-  o = sum (matrixIn l)
+  o = searchFor g (matrixIn l)
 
-  pub forced-workable : (forced : Forced) → forced ≡ sum (matrixIn l) .settle s → Workable l (forced .node)
-  forced-workable forced e = rw e (workable-steps l (w .kept) .forcing s w .good)
+  pub forced-workable : (forced : Forced) → forced ≡ searchFor g (matrixIn l) .settle s → WorkableFor g l (forced .node)
+  forced-workable forced e = rw e (goal-steps g l (w .kept) .forcing s w .good)
 
-  pub settled-workable : (x : Settled) → x ≡ settled (sum (matrixIn l)) (matrixIn l) s → Workable l (x .node)
+  pub settled-workable : (x : Settled) → x ≡ settled (searchFor g (matrixIn l)) (matrixIn l) s → WorkableFor g l (x .node)
   unfolding settled settledBy o
   settled-workable x e = rw e (go (o .settle s .alive) (openRows (matrixIn l) (o .settle s .node)))
     where
-      f : Workable l (o .settle s .node)
+      f : WorkableFor g l (o .settle s .node)
       f = forced-workable (o .settle s) refl
 
-      go : (b : Bool) (is : List ℕ) → Workable l (settledBy o b (o .settle s .node) is .node)
+      go : (b : Bool) (is : List ℕ) → WorkableFor g l (settledBy o b (o .settle s .node) is .node)
       go false is = f
       go true [] = f
-      go true (i ∷ is) = workable-steps l (w .kept) .reducing (o .settle s .node) f .good
+      go true (i ∷ is) = goal-steps g l (w .kept) .reducing (o .settle s .node) f .good
 
 -- the root's bound, from the root settled
-module _ (p : Matrix) (F : FitsNode p) (s : Node) where
+module _ (g : Goal) (p : Matrix) (F : FitsNode p) (s : Node) where
+  v : Variant
+  v = searchFor g p
+
   t : Forced
-  t = sum p .settle s
+  t = searchFor g p .settle s
 
   -- by the open rows
   bound : List ℕ → ℕ
-  bound is = cond (isEmpty is) (t .node .bound) (reduce p (t .node) .node .bound)
+  bound is = cond (isEmpty is) (t .node .bound) (v .lowered (t .node) .bound)
 
-  -- a node without open rows has no candidates, so reducing leaves it
-  reduced-bound : (is : List ℕ) → openRows p (t .node) ≡ is → reduce p (t .node) .node .bound ≡ bound is
-  unfolding bound isEmpty candidates keep
-  reduced-bound [] e = rw (reduced-none p F (t .node) (ap (keep (λ i. ltb 0 (leastOf p (t .node) i))) e))
+  -- reducing leaves a node without open rows
+  reduced-bound : (is : List ℕ) → openRows p (t .node) ≡ is → v .lowered (t .node) .bound ≡ bound is
+  unfolding bound isEmpty v
+  reduced-bound [] e = lowered-none g p F (t .node) e
   reduced-bound (i ∷ is) e = refl
 
-  module _ (x : Settled) (told : x ≡ settled (sum p) p s) where
-    pub bound-alive : x .alive ≡ true → x .node .bound ≡ rootBound (sum p) p (live s)
-    unfolding settled rootBound settledBy bound isEmpty t
+  module _ (x : Settled) (told : x ≡ settled (searchFor g p) p s) where
+    pub bound-alive : x .alive ≡ true → x .node .bound ≡ rootBound (searchFor g p) p (live s)
+    unfolding settled rootBound settledBy bound isEmpty t v
     bound-alive = rw told (go (t .alive) (openRows p (t .node)))
       where
-        go : (b : Bool) (is : List ℕ) → settledBy (sum p) b (t .node) is .alive ≡ true →
-            settledBy (sum p) b (t .node) is .node .bound ≡ bound is
+        go : (b : Bool) (is : List ℕ) → settledBy v b (t .node) is .alive ≡ true → settledBy v b (t .node) is .node .bound ≡ bound is
         go false is h = absurd (false≢true h)
         go true [] h = refl
         go true (i ∷ is) h = refl
 
-    pub bound-dead : x .alive ≡ false → (n : Node) → n ≡ reduce p (x .node) .node → n .bound ≡ rootBound (sum p) p (live s)
-    unfolding settled rootBound settledBy bound t
+    pub bound-dead : x .alive ≡ false → (n : Node) → n ≡ searchFor g p .lowered (x .node) → n .bound ≡ rootBound (searchFor g p) p (live s)
+    unfolding settled rootBound settledBy bound t v
     bound-dead h n d = rw (d, told) (go (t .alive) (openRows p (t .node)) refl (rw told at h))
       where
-        go : (b : Bool) (is : List ℕ) → openRows p (t .node) ≡ is → settledBy (sum p) b (t .node) is .alive ≡ false →
-            reduce p (settledBy (sum p) b (t .node) is .node) .node .bound ≡ bound is
+        go : (b : Bool) (is : List ℕ) → openRows p (t .node) ≡ is → settledBy v b (t .node) is .alive ≡ false →
+            v .lowered (settledBy v b (t .node) is .node) .bound ≡ bound is
         go false is e h = reduced-bound is e
         go true [] e h = absurd (true≢false h)
         go true (i ∷ is) e h = absurd (true≢false h)

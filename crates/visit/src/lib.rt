@@ -1,8 +1,9 @@
 // The tally of a walk, and what a node comes to when it is forced and reduced.
 use forcing::force;
-use lowering::reduce_node;
+use goals::lower_for;
 use node::Node;
 use node::row_count;
+use rules::Goal;
 ghost use mathlib.Core.Path.{_≡_};
 ghost use mathlib.Core.Bool.{true, _&&_};
 ghost use mathlib.Core.List.{[]};
@@ -13,8 +14,9 @@ ghost use Rattle.node.specs.Node.{openRows};
 ghost use Rattle.node.specs.View.{view};
 ghost use Rattle.node.specs.Stored.{matrixIn, Kept};
 ghost use Rattle.rules.specs.Limited.{fresh, entered, halted, offered};
-ghost use Rattle.rules.specs.Tree.{sum, live, rootBound};
-ghost use Rattle.rules.proofs.Costs.{Workable};
+ghost use Rattle.rules.specs.Tree.{live, rootBound};
+ghost use Rattle.rules.specs.Goals.{searchFor};
+ghost use Rattle.rules.proofs.Goals.{WorkableFor};
 ghost use Rattle.visit.specs.Tally.{takenIn, shown};
 ghost use Rattle.visit.specs.Settled.{settled};
 
@@ -126,11 +128,11 @@ pub struct Settled {
 }
 
 // Forces a node, and reduces it where it is alive and has open rows.
-pub fn settle(s: Node, matrix: &[u16]) -> Settled
-    requires { ⌜ Workable (now matrix) s ⌝ }
-    ensures { λ r. ⌜ r ≡ settled (sum (matrixIn (now (matrix .entry)))) (matrixIn (now (matrix .entry))) s ⌝ }
+pub fn settle(goal: Goal, s: Node, matrix: &[u16]) -> Settled
+    requires { ⌜ WorkableFor goal (now matrix) s ⌝ }
+    ensures { λ r. ⌜ r ≡ settled (searchFor goal (matrixIn (now (matrix .entry)))) (matrixIn (now (matrix .entry))) s ⌝ }
 {
-    let forced = force(s, matrix);
+    let forced = force(goal, s, matrix);
     let node = forced.node;
     if !forced.alive {
         return Settled {
@@ -146,8 +148,7 @@ pub fn settle(s: Node, matrix: &[u16]) -> Settled
             full: true,
         };
     }
-    let done = reduce_node(node, matrix);
-    let reduced = done.node;
+    let reduced = lower_for(goal, node, matrix);
     Settled {
         node: reduced,
         alive: true,
@@ -156,16 +157,15 @@ pub fn settle(s: Node, matrix: &[u16]) -> Settled
 }
 
 // The bound of a node after forcing and reducing, or after forcing if it is a plan (01, of the root: root floor).
-pub fn settled_bound(s: Node, matrix: &[u16]) -> u32
-    requires { ⌜ Workable (now matrix) s ⌝ }
-    ensures { λ r. ⌜ r ≡ rootBound (sum (matrixIn (now (matrix .entry)))) (matrixIn (now (matrix .entry))) (live s) ⌝ }
+pub fn settled_bound(goal: Goal, s: Node, matrix: &[u16]) -> u32
+    requires { ⌜ WorkableFor goal (now matrix) s ⌝ }
+    ensures { λ r. ⌜ r ≡ rootBound (searchFor goal (matrixIn (now (matrix .entry)))) (matrixIn (now (matrix .entry))) (live s) ⌝ }
 {
-    let found = settle(s, matrix);
+    let found = settle(goal, s, matrix);
     let node = found.node;
     if found.alive {
         return node.bound;
     }
-    let done = reduce_node(node, matrix);
-    let reduced = done.node;
+    let reduced = lower_for(goal, node, matrix);
     reduced.bound
 }

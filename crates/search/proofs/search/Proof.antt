@@ -1,119 +1,20 @@
--- A file is read, then the plan list's room and the node limit are tested; only where all pass is the matrix searched and is a plan written.
-use mathlib.Core.Path.{refl, sym}
-use Rattle.refusals.specs.Refusals.{filled}
-use Rattle.refusals.proofs.Laws.{failed, passed}
-use Rattle.lists.specs.Loaded.{Loaded}
-use Rattle.answer.specs.Answer.{searchOutcome}
-use Rattle.search.proofs.Called.{refused-demand, refused-file, refused-call, searchable, plan-fits, given-answer, given-plan, given-demand}
-use Rattle.lists.proofs.Read.{file-refused}
+-- The clauses for the sum are those of the call.
 use borrow.Author.Needs.{needs}
+use Rattle.rules.specs.Goals.{searchFor, valueFor}
+use Rattle.search.specs.Searching.{fileAnswer, searching, planList}
+use Rattle.search.specs.Goals.{answerFor, searchingFor, listFor}
 use Rattle.search.proofs.search.Statement.{statement}
 use Rattle.search.proofs.search.Tie as tie
 
--- the file's matrix and costs
-loaded : (c : tie.After-found2) →
-    let k = c .before .before in
-    Loaded (k .before .before .before .before .before .before .before .args .file .now) (c .found2 .given .0 .0) (k .read-matrix .last .1 .0) (k .read-matrix .last .1 .1 .0)
-loaded c = c .before .before .read-matrix .ensures .1 .1 .1 _ (c .found2 .given .1)
-
-no-cells-requires : tie.Need-no-cells-requires
-no-cells-requires c κs = search needs
-
-no-costs-requires : tie.Need-no-costs-requires
-no-costs-requires c κs = search needs
-
-read-matrix-requires : tie.Need-read-matrix-requires
-read-matrix-requires c κs = search needs
-
-enum-known-found : tie.Need-enum-known-found
-enum-known-found c = search needs
-
-enum-known-found-2 : tie.Need-enum-known-found-2
-enum-known-found-2 c = search needs
-
-check-call-requires : tie.Need-check-call-requires
-check-call-requires c κs = search needs
-
-enum-known-test : tie.Need-enum-known-test
-enum-known-test c = search needs
-
-enum-told : tie.Need-enum-told
-enum-told c = search needs
-
-slice-aggregate-root-node : tie.Need-slice-aggregate-root-node
-slice-aggregate-root-node c = sym (loaded (c .before .before .before .before .before) .long)
-
-root-node-requires : tie.Need-root-node-requires
-root-node-requires c κs = loaded (c .before .before .before .before .before) .kept
-
-slice-aggregate-search-from : tie.Need-slice-aggregate-search-from
-slice-aggregate-search-from c = sym (loaded (c .before .before .before .before .before .before .before) .long)
-
-search-from-requires : tie.Need-search-from-requires
-search-from-requires c κs =
-    let t = c .before .before .before in
-    let l = t .before .before in
-    searchable _ _ _ _ _ _ (loaded (l .before .before)) (passed (l .check-call .ensures) (t .enum-told .given .1)) _ (c .before .root-node .ensures)
-
-give-requires : tie.Need-give-requires
-give-requires c κs =
-    let d = c .before in
-    let n = d .before .before in
-    let t = n .before .before in
-    let l = t .before .before in
-    plan-fits _ _ _ _ _ _ (loaded (l .before .before)) (passed (l .check-call .ensures) (t .enum-told .given .1)) _ (n .root-node .ensures) _
-    (d .search-from .ensures)
-
-returns : tie.Need-returns
-unfolding searchOutcome filled
-returns c =
-    let f = c .before in
-    (refused-file _ _ _ _ (file-refused _ _ (f .before .before .read-matrix .ensures .0) _ (f .found .given .1)), (refl, refused-demand _ _ _ _))
-
-returns-2 : tie.Need-returns-2
-unfolding searchOutcome filled
-returns-2 c =
-    let l = c .before .before .before in
-    (refused-call _ _ _ _ _ _ (loaded (l .before .before)) _ (failed (l .check-call .ensures) _ (c .before .test .given .1)), (refl, refused-demand _ _ _ _))
+search-for-requires : tie.Need-search-for-requires
+search-for-requires c κs = search needs
 
 same-length : tie.Need-same-length
 same-length c = search needs
 
-returns-3 : tie.Need-returns-3
-returns-3 c =
-    let g = c .before .before in
-    let d = g .before .before in
-    let n = d .before .before in
-    let t = n .before .before in
-    let l = t .before .before in
-    let k = loaded (l .before .before) in
-    let p = passed (l .check-call .ensures) (t .enum-told .given .1) in
-    let r = n .root-node .ensures in
-    let x = d .search-from .result in
-    let e = d .search-from .ensures in
-    let h = g .give .ensures in (
-      given-answer _ _ _ _ _ _ k p _ r x e _ (h .0),
-      (given-plan _ _ _ _ _ _ k p _ r x e _ (h .0) _ _ (h .1 .0), given-demand _ _ _ _ _ _ k p _ r x e _ _ (h .1 .1)),
-    )
+returns : tie.Need-returns
+unfolding searchFor valueFor answerFor searchingFor listFor fileAnswer searching planList
+returns c = c .before .before .search-for .ensures
 
 pub search-spec : {M : Type 1} → statement M
-search-spec =
-    tie.close
-    (tie.spec
-    no-cells-requires
-    no-costs-requires
-    read-matrix-requires
-    enum-known-found
-    enum-known-found-2
-    check-call-requires
-    enum-known-test
-    enum-told
-    slice-aggregate-root-node
-    root-node-requires
-    slice-aggregate-search-from
-    search-from-requires
-    give-requires
-    returns
-    returns-2
-    same-length
-    returns-3)
+search-spec = tie.close (tie.spec search-for-requires same-length returns)

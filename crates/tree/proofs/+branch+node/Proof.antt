@@ -3,6 +3,7 @@
 use mathlib.Core.Path.{_∙_}
 use Prim.Native.Nat.{ℕ, _+_, _*_, _<_}
 use native.Mathlib.Omega.{arith}
+use borrow.Author.Needs.{needs}
 use borrow.Fn.Kinds.{In}
 use borrow.Fn.PlainCycle.{Measures, is, falls, and}
 use borrow.Author.Tests.{not-true, not-false}
@@ -17,9 +18,9 @@ use Rattle.tree.proofs.+branch+node.Lts-branch as branch-lts
 use Rattle.tree.proofs.node.Reads as node
 use Rattle.tree.proofs.node.Kinds as node-kinds
 use Rattle.tree.proofs.+branch+node.Lts-node as node-lts
-use Rattle.tree.proofs.choose.Reads as choose-reads
+use Rattle.tree.proofs.choose_for.Reads as choose-reads
 use Rattle.node.proofs.Node.leave.Reads as leave-reads
-use Rattle.node.proofs.Node.take.Reads as take-reads
+use Rattle.goals.proofs.take_for.Reads as take-reads
 use Rattle.visit.proofs.enter.Reads as enter-reads
 use Rattle.visit.proofs.halt.Reads as halt-reads
 use Rattle.visit.proofs.is_reached.Reads as is-reached-reads
@@ -29,10 +30,10 @@ use Rattle.tree.proofs.+branch+node.{statement}
 use Rattle.tree.proofs.+branch+node.Tie.{close}
 
 abbrev μ-branch : Measures 1 branch-kinds.ps ℕ
-μ-branch κs a = 2 * size (matrixIn (a .1 .1 .0 .now)) (a .0)
+μ-branch κs a = 2 * size (matrixIn (a .1 .1 .1 .0 .now)) (a .1 .0)
 
 abbrev μ-node : Measures 1 node-kinds.ps ℕ
-μ-node κs a = 2 * size (matrixIn (a .1 .1 .0 .now)) (a .0) + 1
+μ-node κs a = 2 * size (matrixIn (a .1 .1 .1 .0 .now)) (a .1 .0) + 1
 
 abbrev branch-at : ℕ → In 1 branch-kinds.ps
 branch-at t = and 1 branch-kinds.ps (is 1 branch-kinds.ps μ-branch t) branch.Pre
@@ -77,18 +78,18 @@ node-claims t = (
   branch.Post,
 )
 
-branch-choose-requires : (t : ℕ) → branch-lts.Need-choose-requires (branch-claims t) (branch-at t) branch.Post
-branch-choose-requires t c κs = c .before .before .before .before .before .pre .1 .node
+branch-choose-requires : (t : ℕ) → branch-lts.Need-choose-for-requires (branch-claims t) (branch-at t) branch.Post
+branch-choose-requires t c κs = record { wide = search needs; node = c .before .before .before .before .before .pre .1 .node }
 
-branch-take-requires : (t : ℕ) → branch-lts.Need-take-requires (branch-claims t) (branch-at t) branch.Post
-branch-take-requires t c κs = can-take _ _ _ (c .before .before .before .before .before .before .pre .1) _ (c .choose .ensures)
+branch-take-requires : (t : ℕ) → branch-lts.Need-take-for-requires (branch-claims t) (branch-at t) branch.Post
+branch-take-requires t c κs = can-take _ _ _ _ (c .before .before .before .before .before .before .pre .1) _ (c .choose-for .ensures)
 
 branch-node-requires : (t : ℕ) → branch-lts.Need-node-requires (branch-claims t) (branch-at t) branch.Post
 branch-node-requires t c κs =
     let d = c .before in
     let w = d .before .before .before .before .before .before .pre in
-    let l = first-falls _ _ _ (w .1) _ (d .choose .ensures) _ (c .take .ensures) in
-    (omega (arith, l, w .0), first-walks _ _ _ (w .1) _ (d .choose .ensures) _ (c .take .ensures))
+    let l = first-falls _ _ _ _ (w .1) _ (d .choose-for .ensures) _ (c .take-for .ensures) in
+    (omega (arith, l, w .0), first-walks _ _ _ _ (w .1) _ (d .choose-for .ensures) _ (c .take-for .ensures))
 
 branch-returns : (t : ℕ) → branch-lts.Need-returns (branch-claims t) (branch-at t) branch.Post
 branch-returns t c =
@@ -96,7 +97,7 @@ branch-returns t c =
     let k = u .before in
     let d = k .before in
     let w = d .before .before .before .before .before .before .pre .1 in (
-      branch-stops _ _ _ w _ (d .choose .ensures) _ (k .take .ensures) (u .node .result) (u .node .ensures .0) (c .if1 .taken),
+      branch-stops _ _ _ _ w _ (d .choose-for .ensures) _ (k .take-for .ensures) (u .node .result) (u .node .ensures .0) (c .if1 .taken),
       u .node .ensures .1,
     )
 
@@ -110,7 +111,7 @@ branch-returns-2 t c =
     let k = u .before in
     let d = k .before in
     let w = d .before .before .before .before .before .before .pre .1 in (
-      branch-reached _ _ _ w _ (d .choose .ensures) _ (k .take .ensures) (u .node .result) (u .node .ensures .0) (f .if1 .left) _ (c .before .is-reached .ensures)
+      branch-reached _ _ _ _ w _ (d .choose-for .ensures) _ (k .take-for .ensures) (u .node .result) (u .node .ensures .0) (f .if1 .left) _ (c .before .is-reached .ensures)
           (c .if2 .taken),
       u .node .ensures .1,
     )
@@ -118,15 +119,15 @@ branch-returns-2 t c =
 branch-leave-requires : (t : ℕ) → branch-lts.Need-leave-requires (branch-claims t) (branch-at t) branch.Post
 branch-leave-requires t c κs =
     let d = c .before .before .before .before .before in
-    column-low _ _ _ (d .before .before .before .before .before .before .pre .1) _ (d .choose .ensures)
+    column-low _ _ _ _ (d .before .before .before .before .before .before .pre .1) _ (d .choose-for .ensures)
 
 branch-node-requires-2 : (t : ℕ) → branch-lts.Need-node-requires-2 (branch-claims t) (branch-at t) branch.Post
 branch-node-requires-2 t c κs =
     let u = c .before .before .before .before in
     let d = u .before .before in
     let w = d .before .before .before .before .before .before .pre in
-    let l = second-falls _ _ _ (w .1) _ (d .choose .ensures) _ (c .leave .ensures) in
-    (omega (arith, l, w .0), second-walks _ _ _ (w .1) _ (d .choose .ensures) _ (c .leave .ensures) _ (u .node .ensures .1))
+    let l = second-falls _ _ _ _ (w .1) _ (d .choose-for .ensures) _ (c .leave .ensures) in
+    (omega (arith, l, w .0), second-walks _ _ _ _ (w .1) _ (d .choose-for .ensures) _ (c .leave .ensures) _ (u .node .ensures .1))
 
 branch-returns-3 : (t : ℕ) → branch-lts.Need-returns-3 (branch-claims t) (branch-at t) branch.Post
 branch-returns-3 t c =
@@ -136,7 +137,7 @@ branch-returns-3 t c =
     let k = u .before in
     let d = k .before in
     let w = d .before .before .before .before .before .before .pre .1 in (
-      branch-goes _ _ _ w _ (d .choose .ensures) _ (k .take .ensures) (u .node .result) (u .node .ensures .0) (f .if1 .left) _ (g .before .is-reached .ensures)
+      branch-goes _ _ _ _ w _ (d .choose-for .ensures) _ (k .take-for .ensures) (u .node .result) (u .node .ensures .0) (f .if1 .left) _ (g .before .is-reached .ensures)
           (g .if2 .left) _ (c .before .leave .ensures) (c .node2 .result) (c .node2 .ensures .0),
       c .node2 .ensures .1 ∙ u .node .ensures .1,
     )
@@ -165,7 +166,7 @@ node-returns-2 t c =
     let a = m .before .before .before .before in
     let e = m .enter .result in
     let u = m .enter .ensures in
-    (node-ends _ _ _ (a .args .t) z e u _ (comes _ _ _ (a .pre .1) _ (n .settle-node .ensures)) (not-true _ (c .if2 .taken)), entered-sum (a .args .t) e z u)
+    (node-ends _ _ _ (a .args .t) z e u _ (comes _ _ _ _ (a .pre .1) _ (n .settle-node .ensures)) (not-true _ (c .if2 .taken)), entered-sum (a .args .t) e z u)
 
 node-offer-requires : (t : ℕ) → node-lts.Need-offer-requires (node-claims t) (node-at t) node.Post
 node-offer-requires t c κs = tt
@@ -180,7 +181,7 @@ node-returns-3 t c =
     let a = m .before .before .before .before in
     let e = m .enter .result in
     let u = m .enter .ensures in (
-      node-offers _ _ _ (a .args .t) z e u _ (comes _ _ _ (a .pre .1) _ (n .settle-node .ensures)) (not-false _ (g .if2 .left)) (f .if3 .taken)
+      node-offers _ _ _ (a .args .t) z e u _ (comes _ _ _ _ (a .pre .1) _ (n .settle-node .ensures)) (not-false _ (g .if2 .left)) (f .if3 .taken)
           (c .offer .result) (c .offer .ensures),
       offered-sum e (c .offer .result) _ (n .settle-node .result .node .column) (c .offer .ensures) ∙ entered-sum (a .args .t) e z u,
     )
@@ -198,7 +199,7 @@ node-returns-4 t c =
     let a = m .before .before .before .before in
     let e = m .enter .result in
     let u = m .enter .ensures in (
-      node-reached _ _ _ (a .args .t) z e u _ (comes _ _ _ (a .pre .1) _ (n .settle-node .ensures)) (not-false _ (g .if2 .left)) (f .if3 .left) _
+      node-reached _ _ _ (a .args .t) z e u _ (comes _ _ _ _ (a .pre .1) _ (n .settle-node .ensures)) (not-false _ (g .if2 .left)) (f .if3 .left) _
           (c .before .is-reached .ensures) (c .if4 .taken),
       entered-sum (a .args .t) e z u,
     )
@@ -214,8 +215,8 @@ node-branch-requires t c κs =
     let e = m .enter .result in
     let q = entered-sum (a .args .t) e z (m .enter .ensures) in
     let x = n .settle-node .ensures in
-    let l = comes _ _ _ (a .pre .1) _ x .less in
-    (omega (arith, l, a .pre .0), can-branch _ _ _ (a .pre .1) _ x e q (not-false _ (g .if2 .left)) (f .if3 .left))
+    let l = comes _ _ _ _ (a .pre .1) _ x .less in
+    (omega (arith, l, a .pre .0), can-branch _ _ _ _ (a .pre .1) _ x e q (not-false _ (g .if2 .left)) (f .if3 .left))
 
 node-returns-5 : (t : ℕ) → node-lts.Need-returns-5 (node-claims t) (node-at t) node.Post
 node-returns-5 t c =
@@ -227,7 +228,7 @@ node-returns-5 t c =
     let a = m .before .before .before .before in
     let e = m .enter .result in
     let u = m .enter .ensures in (
-      node-branches _ _ _ (a .args .t) z e u _ (comes _ _ _ (a .pre .1) _ (n .settle-node .ensures)) (not-false _ (g .if2 .left)) (f .if3 .left) _
+      node-branches _ _ _ (a .args .t) z e u _ (comes _ _ _ _ (a .pre .1) _ (n .settle-node .ensures)) (not-false _ (g .if2 .left)) (f .if3 .left) _
           (c .before .before .is-reached .ensures) (c .before .if4 .left) (c .branch .result) (c .branch .ensures .0),
       c .branch .ensures .1 ∙ entered-sum (a .args .t) e z u,
     )

@@ -5,7 +5,7 @@ use Rattle.tree.proofs.choose.Statement.{statement}
 use Rattle.tree.proofs.choose.Tie as tie
 
 branch-row-requires : tie.Need-branch-row-requires
-branch-row-requires c κs = c .before .pre .some .kept
+branch-row-requires c κs = c .before .pre .kept
 
 cast-i : tie.Need-cast-i
 cast-i c = search needs
@@ -21,7 +21,7 @@ without-bound-requires c κs =
 returns : tie.Need-returns
 returns c =
     let a = c .before .before .before in
-    choice-made _ _ (a .before .before .pre .splits) _ (a .branch-row .ensures) _ (c .before .branch-column .ensures) _ (c .without-bound .ensures)
+    choice-made _ _ (a .before .before .pre) _ (a .branch-row .ensures) _ (c .before .branch-column .ensures) _ (c .without-bound .ensures)
 
 pub choose-spec : {M : Type 1} → statement M
 choose-spec =

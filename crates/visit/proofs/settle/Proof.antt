@@ -20,19 +20,19 @@ returns-2 c =
     settle-full _ _ _ _ (a .before .before .before .force .ensures) (not-false _ (a .if1 .left)) _ (c .before .is-full .ensures)
     (c .if2 .taken)
 
-reduce-node-requires : tie.Need-reduce-node-requires
-reduce-node-requires c κs =
+lower-for-requires : tie.Need-lower-for-requires
+lower-for-requires c κs =
     let a = c .before .before .before .before .before .before .before in
-    forced-workable _ _ (a .before .before .pre) _ (a .force .ensures)
+    forced-workable _ _ _ (a .before .before .pre) _ (a .force .ensures)
 
 returns-3 : tie.Need-returns-3
 returns-3 c =
-    let b = c .before .before in
+    let b = c .before in
     let a = b .before .before .before .before in
     settle-open _ _ _ _ (a .before .before .before .force .ensures) (not-false _ (a .if1 .left)) _ (b .before .is-full .ensures)
-    (b .if2 .left) _ (c .before .reduce-node .ensures .node-is)
+    (b .if2 .left) _ (c .lower-for .ensures)
 
 pub settle-spec : {M : Type 1} → statement M
 settle-spec =
     tie.close
-    (tie.spec force-requires returns is-full-requires returns-2 reduce-node-requires returns-3)
+    (tie.spec force-requires returns is-full-requires returns-2 lower-for-requires returns-3)

@@ -10,18 +10,18 @@ settle-requires c κs = search needs
 returns : tie.Need-returns
 returns c =
     let a = c .before .before in
-    bound-alive _ (a .before .before .pre .kept .small .fits) _ _ (a .settle .ensures) (c .if1 .taken)
+    bound-alive _ _ (a .before .before .pre .kept .small .fits) _ _ (a .settle .ensures) (c .if1 .taken)
 
-reduce-node-requires : tie.Need-reduce-node-requires
-reduce-node-requires c κs =
+lower-for-requires : tie.Need-lower-for-requires
+lower-for-requires c κs =
     let a = c .before .before in
-    settled-workable _ _ (a .before .before .pre) _ (a .settle .ensures)
+    settled-workable _ _ _ (a .before .before .pre) _ (a .settle .ensures)
 
 returns-2 : tie.Need-returns-2
 returns-2 c =
-    let a = c .before .before in
+    let a = c .before in
     let d = a .before .before in
-    bound-dead _ (d .before .before .pre .kept .small .fits) _ _ (d .settle .ensures) (a .if1 .left) _ (c .before .reduce-node .ensures .node-is)
+    bound-dead _ _ (d .before .before .pre .kept .small .fits) _ _ (d .settle .ensures) (a .if1 .left) _ (c .lower-for .ensures)
 
 pub settled-bound-spec : {M : Type 1} → statement M
-settled-bound-spec = tie.close (tie.spec settle-requires returns reduce-node-requires returns-2)
+settled-bound-spec = tie.close (tie.spec settle-requires returns lower-for-requires returns-2)
