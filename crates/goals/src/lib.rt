@@ -135,10 +135,10 @@ pub fn lower_for(goal: Goal, s: Node, matrix: &[u16]) -> Node
 fn less(cost: u32, bound: u32) -> u32
     ensures { λ r. ⌜ r ≡ cost - bound ⌝ }
 {
-    if bound <= cost {
-        return cost - bound;
+    if cost <= bound {
+        return 0;
     }
-    0
+    cost - bound
 }
 
 // The present costs for the longest duty: each cost less the bound.

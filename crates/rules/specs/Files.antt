@@ -33,10 +33,10 @@ abbrev parts : Instance
 parts = file 2 (9 ∷ 4 ∷ 4 ∷ []) ((1 ∷ 2 ∷ []) ∷ (1 ∷ []) ∷ (2 ∷ []) ∷ [])
 
 -- m 3, {1,2}, {2,3}, {1,3} at 1
-abbrev pairs : Instance
+abbrev pub pairs : Instance
 pairs = file 3 (1 ∷ 1 ∷ 1 ∷ []) ((1 ∷ 2 ∷ []) ∷ (2 ∷ 3 ∷ []) ∷ (1 ∷ 3 ∷ []) ∷ [])
 
-abbrev example1 : Instance
+abbrev pub example1 : Instance
 example1 = file 5 (3 ∷ 7 ∷ 5 ∷ 8 ∷ 10 ∷ 4 ∷ 6 ∷ 9 ∷ [])
     ((1 ∷ []) ∷ (1 ∷ 5 ∷ []) ∷ (2 ∷ []) ∷ (2 ∷ 5 ∷ []) ∷ (2 ∷ 3 ∷ []) ∷ (3 ∷ 5 ∷ []) ∷ (3 ∷ 4 ∷ []) ∷ (4 ∷ []) ∷ [])
 
