@@ -2,6 +2,7 @@
 //! and the lines of the samples. In a difference, what is found is stored and what is wanted is worked out; the program `remake` prints it.
 
 use spp_tests::files::{self, Columns};
+use spp_tests::goal::Goal;
 use spp_tests::second::{least_price, Least};
 use spp_tests::stored::samples::List;
 use spp_tests::stored::search_files::{self, Search};
@@ -71,6 +72,7 @@ fn example(name: &str) -> Option<Columns> {
         "example2" => Some(files::example_2()),
         "example3" => Some(files::example_3()),
         "example4" => Some(files::example_4()),
+        "example7" => Some(files::example_7()),
         _ => None,
     }
 }
@@ -84,9 +86,9 @@ fn table_place(report: &mut Report, file: &str, place: &Place) {
     }
     match place.question {
         Question::Order => drop(compare::reduce(report, &bytes, [columns.costs.len(), rows])),
-        Question::Search(limit) => {
-            let answer = compare::search(report, &bytes, limit, rows).0;
-            prices::compare(report, &answer, least_price(columns, MOST_SETS), || format!("second solver, {name}"));
+        Question::Search(goal, limit) => {
+            let answer = compare::search(report, goal, &bytes, limit, rows).0;
+            prices::compare(report, &answer, least_price(columns, goal, MOST_SETS), || format!("second solver, {name}"));
         }
     }
 }
@@ -128,7 +130,7 @@ fn second_solver(report: &mut Report, searches: &[Search]) {
     let (mut accepted, mut known) = (0, 0);
     for search in searches.iter().filter(|search| search.answer.refusal == 0) {
         let Some(columns) = input::columns(&search.file) else { continue };
-        let least = least_price(&columns, MOST_SETS);
+        let least = least_price(&columns, Goal::Sum, MOST_SETS);
         accepted += 1;
         known += (least != Least::Unknown) as usize;
         prices::compare(report, &search.answer, least, || format!("{}: {}", search_files::INPUT, search.name));

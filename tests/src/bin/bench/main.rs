@@ -47,6 +47,7 @@ fn main() {
     let files = nodes::ferry_files();
     nodes::table(&files);
     solvers::table(&files);
+    nodes::longest_table(&files);
     calls::table();
     growth::table();
     stack::table();
