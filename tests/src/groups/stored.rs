@@ -16,6 +16,9 @@ use crate::report::Report;
 /// Sets of covered rows that the second solver may hold.
 const MOST_SETS: usize = 1_000_000;
 
+/// The node limit of the samples' searches.
+const SAMPLE_LIMIT: u32 = 20_000;
+
 pub fn run(report: &mut Report) {
     report.group("stored outputs of the gate's programs, line by line against (a)");
     PROGRAMS.iter().for_each(|program| output(report, program));
@@ -27,6 +30,7 @@ pub fn run(report: &mut Report) {
     let searches = given(report, search_files::searches()).unwrap_or_default();
     samples::LISTS.iter().for_each(|list| sample_lines(report, list));
     sample_files(report, &searches);
+    sample_searches(report);
     report.group("stored prices against the second solver");
     second_solver(report, &searches);
 }
@@ -123,6 +127,19 @@ fn sample_files(report: &mut Report, searches: &[Search]) {
         }
     }
     report.holds(in_gate > 0, || format!("{}: has no sample", search_files::INPUT));
+}
+
+/// Each sample, searched for both goals.
+fn sample_searches(report: &mut Report) {
+    for name in given(report, samples::names()).unwrap_or_default() {
+        let Some(file) = given(report, samples::file(&name)) else { continue };
+        for goal in Goal::BOTH {
+            report.group_of(goal, "samples: searches against (a) and the second solver");
+            let answer = compare::search(report, goal, &file, SAMPLE_LIMIT, 64).0;
+            let least = input::columns(&file).map_or(Least::Unknown, |columns| least_price(&columns, goal, MOST_SETS));
+            prices::compare(report, &answer, least, || format!("samples/{name}"));
+        }
+    }
 }
 
 /// The searches of the gate's input that are not refused.
