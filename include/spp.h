@@ -235,8 +235,8 @@ static inline struct spp_reduced spp_reduce(const uint8_t *file, size_t file_cou
 }
 
 /* A search by the engine's call, with its lists guarded. */
-static inline struct spp_answer spp_guarded(spp_core_call call, const uint8_t *file, size_t file_count, uint32_t node_limit,
-                                            uint16_t *plan, size_t plan_count) {
+static inline struct spp_answer spp_guarded_search(spp_core_call call, const uint8_t *file, size_t file_count,
+                                                   uint32_t node_limit, uint16_t *plan, size_t plan_count) {
     const struct spp_list lists[2] = {{file, file_count, sizeof *file}, {plan, plan_count, sizeof *plan}};
     struct spp_answer refused = {0, 0, 0, 0, 0, 0, 0};
     uint8_t no_file = 0;
@@ -254,13 +254,13 @@ static inline struct spp_answer spp_guarded(spp_core_call call, const uint8_t *f
  */
 static inline struct spp_answer spp_search(const uint8_t *file, size_t file_count, uint32_t node_limit, uint16_t *plan,
                                            size_t plan_count) {
-    return spp_guarded(spp_core_search, file, file_count, node_limit, plan, plan_count);
+    return spp_guarded_search(spp_core_search, file, file_count, node_limit, plan, plan_count);
 }
 
 /* Searches for a plan whose largest cost is least (its longest duty); all else is as for spp_search. */
 static inline struct spp_answer spp_longest(const uint8_t *file, size_t file_count, uint32_t node_limit, uint16_t *plan,
                                             size_t plan_count) {
-    return spp_guarded(spp_core_longest, file, file_count, node_limit, plan, plan_count);
+    return spp_guarded_search(spp_core_longest, file, file_count, node_limit, plan, plan_count);
 }
 
 #endif

@@ -16,7 +16,8 @@ static const char *const call_names[] = {"spp_read", "spp_write", "spp_check", "
 
 /* The lists of each call: how many, and the bytes of one place. */
 static const size_t list_counts[] = {4, 4, 2, 3, 2, 2};
-static const size_t place_sizes[][MOST_LISTS] = {{1, 4, 2, 1}, {4, 2, 1, 1}, {1, 2, 0, 0}, {1, 4, 1, 0}, {1, 2, 0, 0}, {1, 2, 0, 0}};
+static const size_t place_sizes[][MOST_LISTS] = {{1, 4, 2, 1}, {4, 2, 1, 1}, {1, 2, 0, 0},
+                                                 {1, 4, 1, 0}, {1, 2, 0, 0}, {1, 2, 0, 0}};
 
 /* Example 1 of the paper, which is example 7 too: 5 rows, 8 columns, 13 entries. */
 static const uint32_t costs[8] = {3, 7, 5, 8, 10, 4, 6, 9};

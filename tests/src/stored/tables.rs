@@ -1,7 +1,6 @@
-//! The tables of the rules, which are proved there by computing: in crates/rules/specs, `files` in Files.antt, `orders` and `cases` in
-//! Cases.antt, and `longestCases` in LongestCases.antt. A table is read as `NAME : QUESTIONS ≡ VALUES`, with the questions `order INSTANCE`,
-//! `solved INSTANCE LIMIT` for the sum and `found INSTANCE LIMIT` for the longest duty. Of the rest of these files only instances and
-//! numbers are read.
+//! The tables of the rules, which are proved there by computing. A table is read as `NAME : QUESTIONS ≡ VALUES`, with the questions
+//! `order INSTANCE`, `solved INSTANCE LIMIT` for the sum, or `found INSTANCE LIMIT` for the longest duty. Of the rest of these files only
+//! instances and numbers are read.
 
 use super::names::Names;
 use super::reader::{statements, texts, Reader, Token};
@@ -12,12 +11,12 @@ use crate::files::Columns;
 use crate::goal::Goal;
 use crate::plain;
 
-const FILES: &str = "crates/rules/specs/Files.antt";
-const CASES: &str = "crates/rules/specs/Cases.antt";
-const LONGEST_CASES: &str = "crates/rules/specs/LongestCases.antt";
-
-/// The tables, by the file that each stands in.
-const TABLES: [(&str, &[&str]); 3] = [(FILES, &["files"]), (CASES, &["orders", "cases"]), (LONGEST_CASES, &["longestCases"])];
+/// The files of the rules that hold tables, and the names of these.
+const TABLES: [(&str, &[&str]); 3] = [
+    ("crates/rules/specs/Files.antt", &["files"]),
+    ("crates/rules/specs/Cases.antt", &["orders", "cases"]),
+    ("crates/rules/specs/LongestCases.antt", &["longestCases"]),
+];
 
 /// What a place of a table asks of an instance.
 pub enum Question {
