@@ -1,5 +1,6 @@
 //! What the repository stores against what `spp_tests::stored` works out anew: the outputs of the gate's programs, the tables of the rules
 //! and the lines of the samples. In a difference, what is found is stored and what is wanted is worked out; the program `remake` prints it.
+//! The samples are searched for both goals besides.
 
 use spp_tests::files::{self, Columns};
 use spp_tests::goal::Goal;

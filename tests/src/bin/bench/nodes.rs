@@ -10,7 +10,6 @@ use crate::runs::Runs;
 
 const SMALL_FILES: usize = 12;
 const SMALL_REPEATS: usize = 15;
-
 const LARGE_REPEATS: usize = 5;
 
 /// A file with the size of its tree, and how often its search is repeated.
