@@ -1,8 +1,9 @@
 /*
- * A desk plug-in: reads a duty file, searches for the cheapest plan, checks it and prints the roster.
+ * A desk plug-in: reads a duty file, searches for the cheapest plan, or for the one whose longest duty is cheapest, checks it and prints
+ * the roster.
  *
  *     gcc -Iinclude examples/desk.c target/staticlib/libspp.a -o desk
- *     ./desk FILE [ALLOWANCE]
+ *     ./desk FILE [ALLOWANCE [longest]]
  *
  * Exit status: 0 with a roster, 1 if there is no plan to show, 2 with an error.
  */
@@ -85,34 +86,47 @@ static void print_duty(const struct duties *duties, uint16_t column) {
     printf("\n");
 }
 
+/* The price of the dearest duty of a plan. */
+static uint64_t dearest(const struct duties *duties, const uint16_t *plan, size_t count) {
+    uint64_t most = 0;
+    size_t i;
+    for (i = 0; i < count; i++) {
+        if (duties->costs[plan[i] - 1] > most) {
+            most = duties->costs[plan[i] - 1];
+        }
+    }
+    return most;
+}
+
 /* Checks the plan shown against the file, and prints it. */
-static int print_roster(const struct duties *duties, struct spp_answer answer, const uint16_t *plan) {
+static int print_roster(const struct duties *duties, struct spp_answer answer, const uint16_t *plan, int longest) {
     struct spp_checked checked = spp_check(duties->file, duties->length, plan, answer.columns);
     size_t i;
     if (checked.refusal) {
         return refused("the plan check", checked.refusal);
     }
-    if (!checked.is_plan || checked.price != answer.price) {
+    if (!checked.is_plan || answer.price != (longest ? dearest(duties, plan, answer.columns) : checked.price)) {
         fprintf(stderr, "desk: the plan shown does not pass the plan check\n");
         return 2;
     }
-    printf("%s roster: %u duties, price %llu, floor %llu, %u nodes\n", answer.outcome == SPP_BEST ? "best" : "stopped",
-           (unsigned)answer.columns, (unsigned long long)answer.price, (unsigned long long)answer.bound,
-           (unsigned)answer.nodes);
+    printf("%s roster: %u duties, %s %llu, floor %llu, %u nodes\n", answer.outcome == SPP_BEST ? "best" : "stopped",
+           (unsigned)answer.columns, longest ? "longest duty" : "price", (unsigned long long)answer.price,
+           (unsigned long long)answer.bound, (unsigned)answer.nodes);
     for (i = 0; i < answer.columns; i++) {
         print_duty(duties, plan[i]);
     }
     return 0;
 }
 
-static int solve(const struct duties *duties, uint32_t node_limit) {
+static int solve(const struct duties *duties, uint32_t node_limit, int longest) {
     uint16_t plan[SPP_MOST_ROWS];
-    struct spp_answer answer = spp_search(duties->file, duties->length, node_limit, plan, SPP_MOST_ROWS);
+    struct spp_answer answer =
+        (longest ? spp_longest : spp_search)(duties->file, duties->length, node_limit, plan, SPP_MOST_ROWS);
     if (answer.refusal) {
         return refused("the search", answer.refusal);
     }
     if (answer.has_plan) {
-        return print_roster(duties, answer, plan);
+        return print_roster(duties, answer, plan, longest);
     }
     if (answer.outcome == SPP_NONE) {
         printf("no roster: no plan exists, %u nodes\n", (unsigned)answer.nodes);
@@ -133,14 +147,14 @@ static uint32_t limit_of(const char *text) {
 int main(int count, char **words) {
     static struct duties duties;
     uint32_t node_limit = SPP_MOST_NODES;
-    int failed;
-    if (count < 2 || count > 3) {
-        fprintf(stderr, "usage: desk FILE [ALLOWANCE]\n");
+    int longest = count == 4, failed;
+    if (count < 2 || count > 4 || (longest && strcmp(words[3], "longest"))) {
+        fprintf(stderr, "usage: desk FILE [ALLOWANCE [longest]]\n");
         return 2;
     }
-    if (count == 3) {
+    if (count > 2) {
         node_limit = limit_of(words[2]);
     }
     failed = load(words[1], &duties);
-    return failed ? failed : solve(&duties, node_limit);
+    return failed ? failed : solve(&duties, node_limit, longest);
 }

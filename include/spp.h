@@ -2,7 +2,7 @@
  * Crew plans from a duty file: the C interface of the engine.
  *
  * Link with target/staticlib/libspp.a, which `rt staticlib spp` builds. Call the functions at the end of this file, spp_read to
- * spp_search. They refuse lists of which any two overlap, and null pointers, before the engine is entered; the functions spp_core_..
+ * spp_longest. They refuse lists of which any two overlap, and null pointers, before the engine is entered; the functions spp_core_..
  * are the engine itself, which takes for granted that no two lists overlap and that no pointer is null.
  *
  * A row is a sailing, a column a duty; both are numbered from 1. A list is lent as a pointer and the number of its places. A call that
@@ -45,7 +45,7 @@ extern "C" {
 #define SPP_NULL 101         /* a null pointer was lent with a number of places above 0 */
 
 /* Values of `outcome`; 0 with a refusal. */
-#define SPP_BEST 1    /* the plan shown is a cheapest one */
+#define SPP_BEST 1    /* no plan has a lower price than the one shown */
 #define SPP_NONE 2    /* the file has no plan */
 #define SPP_STOPPED 3 /* the node limit was reached */
 
@@ -79,7 +79,7 @@ struct spp_reduced {
     uint64_t bound;   /* the lower bound (floor): no plan costs less */
 };
 
-/* What the search answers. */
+/* What a search answers. A plan's price is the sum of its costs for spp_search, and the largest of its costs for spp_longest. */
 struct spp_answer {
     uint32_t refusal;  /* 0, or why nothing was searched */
     uint32_t outcome;  /* SPP_BEST, SPP_NONE or SPP_STOPPED */
@@ -87,7 +87,7 @@ struct spp_answer {
     uint32_t columns;  /* number of columns of the plan shown, filled in at the front of the plan list */
     uint32_t nodes;    /* number of nodes entered */
     uint64_t price;    /* price of the plan shown */
-    uint64_t bound;    /* with best and stopped: the root's lower bound (root floor) */
+    uint64_t bound;    /* with best and stopped: the root's lower bound (root floor); no plan has a lower price */
 };
 
 /* The engine. No two lists of a call may overlap and no pointer may be null, not even for an empty list. */
@@ -101,6 +101,12 @@ struct spp_reduced spp_core_reduce(const uint8_t *file, size_t file_count, uint3
                                    uint8_t *order, size_t order_count);
 struct spp_answer spp_core_search(const uint8_t *file, size_t file_count, uint32_t node_limit, uint16_t *plan,
                                   size_t plan_count);
+struct spp_answer spp_core_longest(const uint8_t *file, size_t file_count, uint32_t node_limit, uint16_t *plan,
+                                   size_t plan_count);
+
+/* One of the engine's two searches. */
+typedef struct spp_answer (*spp_core_call)(const uint8_t *file, size_t file_count, uint32_t node_limit, uint16_t *plan,
+                                           size_t plan_count);
 
 #ifdef __cplusplus
 }
@@ -228,12 +234,9 @@ static inline struct spp_reduced spp_reduce(const uint8_t *file, size_t file_cou
                            order ? order : &no_row, order_count);
 }
 
-/*
- * Searches for a cheapest plan and enters at most `node_limit` nodes, 1 to 1,000,000: fills in the plan's columns, rising.
- * The plan list must hold as many places as there are rows.
- */
-static inline struct spp_answer spp_search(const uint8_t *file, size_t file_count, uint32_t node_limit, uint16_t *plan,
-                                           size_t plan_count) {
+/* A search by the engine's call, with its lists guarded. */
+static inline struct spp_answer spp_guarded_search(spp_core_call call, const uint8_t *file, size_t file_count,
+                                                   uint32_t node_limit, uint16_t *plan, size_t plan_count) {
     const struct spp_list lists[2] = {{file, file_count, sizeof *file}, {plan, plan_count, sizeof *plan}};
     struct spp_answer refused = {0, 0, 0, 0, 0, 0, 0};
     uint8_t no_file = 0;
@@ -242,7 +245,22 @@ static inline struct spp_answer spp_search(const uint8_t *file, size_t file_coun
     if (refused.refusal) {
         return refused;
     }
-    return spp_core_search(file ? file : &no_file, file_count, node_limit, plan ? plan : &no_column, plan_count);
+    return call(file ? file : &no_file, file_count, node_limit, plan ? plan : &no_column, plan_count);
+}
+
+/*
+ * Searches for a plan with the least sum of costs and enters at most `node_limit` nodes, 1 to 1,000,000: fills in the plan's columns,
+ * rising. The plan list must hold as many places as there are rows.
+ */
+static inline struct spp_answer spp_search(const uint8_t *file, size_t file_count, uint32_t node_limit, uint16_t *plan,
+                                           size_t plan_count) {
+    return spp_guarded_search(spp_core_search, file, file_count, node_limit, plan, plan_count);
+}
+
+/* Searches for a plan whose largest cost is least (its longest duty); all else is as for spp_search. */
+static inline struct spp_answer spp_longest(const uint8_t *file, size_t file_count, uint32_t node_limit, uint16_t *plan,
+                                            size_t plan_count) {
+    return spp_guarded_search(spp_core_longest, file, file_count, node_limit, plan, plan_count);
 }
 
 #endif

@@ -11,18 +11,19 @@
 #define APART 1000 /* bytes between the lists' first places */
 #define MOST_LISTS 4
 
-enum call { READ, WRITE, CHECK, REDUCE, SEARCH };
-static const char *const call_names[] = {"spp_read", "spp_write", "spp_check", "spp_reduce", "spp_search"};
+enum call { READ, WRITE, CHECK, REDUCE, SEARCH, LONGEST };
+static const char *const call_names[] = {"spp_read", "spp_write", "spp_check", "spp_reduce", "spp_search", "spp_longest"};
 
 /* The lists of each call: how many, and the bytes of one place. */
-static const size_t list_counts[] = {4, 4, 2, 3, 2};
-static const size_t place_sizes[][MOST_LISTS] = {{1, 4, 2, 1}, {4, 2, 1, 1}, {1, 2, 0, 0}, {1, 4, 1, 0}, {1, 2, 0, 0}};
+static const size_t list_counts[] = {4, 4, 2, 3, 2, 2};
+static const size_t place_sizes[][MOST_LISTS] = {{1, 4, 2, 1}, {4, 2, 1, 1}, {1, 2, 0, 0},
+                                                 {1, 4, 1, 0}, {1, 2, 0, 0}, {1, 2, 0, 0}};
 
-/* Example 1 of the paper: 5 rows, 8 columns, 13 entries. */
+/* Example 1 of the paper, which is example 7 too: 5 rows, 8 columns, 13 entries. */
 static const uint32_t costs[8] = {3, 7, 5, 8, 10, 4, 6, 9};
 static const uint16_t lengths[8] = {1, 2, 1, 2, 2, 2, 2, 1};
 static const uint8_t rows[13] = {1, 1, 5, 2, 2, 5, 2, 3, 3, 5, 3, 4, 4};
-static const uint16_t plan[3] = {1, 4, 7};
+static const uint16_t plan[3] = {1, 4, 7}, longest_plan[3] = {2, 3, 7};
 static uint8_t file[85];
 
 /* The block is aligned for every list. */
@@ -64,14 +65,17 @@ static uint32_t refusal_of(enum call call, const struct lent *l) {
         return spp_reduce((uint8_t *)l[0].start, l[0].count, (uint32_t *)l[1].start, l[1].count, (uint8_t *)l[2].start,
                           l[2].count)
             .refusal;
-    default:
+    case SEARCH:
         return spp_search((uint8_t *)l[0].start, l[0].count, 1000, (uint16_t *)l[1].start, l[1].count).refusal;
+    default:
+        return spp_longest((uint8_t *)l[0].start, l[0].count, 1000, (uint16_t *)l[1].start, l[1].count).refusal;
     }
 }
 
 /* Fills the block with a pattern and lends each list at a place of its own, with what an accepted call needs. */
 static void lend(enum call call, struct lent *l) {
-    static const size_t counts[][MOST_LISTS] = {{85, 8, 8, 13}, {8, 8, 13, 85}, {85, 3, 0, 0}, {85, 8, 5, 0}, {85, 5, 0, 0}};
+    static const size_t counts[][MOST_LISTS] = {{85, 8, 8, 13}, {8, 8, 13, 85}, {85, 3, 0, 0},
+                                                {85, 8, 5, 0},  {85, 5, 0, 0},  {85, 5, 0, 0}};
     size_t i;
     for (i = 0; i < BLOCK; i++) {
         block.bytes[i] = (uint8_t)(i * 5 + 77);
@@ -177,16 +181,24 @@ static int equal_answers(struct spp_answer a, struct spp_answer b) {
            a.nodes == b.nodes && a.price == b.price && a.bound == b.bound;
 }
 
-/* Accepted calls through the header: stated values, and the same as from the engine. */
+/* An accepted search of example 1 through the header: the stated answer and plan, and the same as from the engine. */
+static void accepted_search(enum call call, const uint16_t *wanted_plan, uint64_t price, uint64_t bound) {
+    struct spp_answer wanted = {0, SPP_BEST, 1, 3, 3, price, bound};
+    uint16_t found[5], core_found[5];
+    struct spp_answer answer = (call == SEARCH ? spp_search : spp_longest)(file, 85, 1000, found, 5);
+    struct spp_answer core_answer = (call == SEARCH ? spp_core_search : spp_core_longest)(file, 85, 1000, core_found, 5);
+    holds(equal_answers(answer, wanted) && !memcmp(found, wanted_plan, sizeof plan), call, "example 1");
+    holds(equal_answers(answer, core_answer) && !memcmp(found, core_found, sizeof plan), call, "header and engine");
+}
+
+/* Accepted calls through the header: stated values. */
 static void accepted(void) {
     uint32_t read_costs[8], reduced[8];
-    uint16_t read_lengths[8], found[5], core_found[5];
+    uint16_t read_lengths[8];
     uint8_t read_rows[13], order[5];
     struct spp_shape shape = spp_read(file, 85, read_costs, 8, read_lengths, 8, read_rows, 13);
     struct spp_checked checked = spp_check(file, 85, plan, 3);
     struct spp_reduced reduction = spp_reduce(file, 85, reduced, 8, order, 5);
-    struct spp_answer answer = spp_search(file, 85, 1000, found, 5);
-    struct spp_answer core_answer = spp_core_search(file, 85, 1000, core_found, 5);
     holds(shape.refusal == 0 && shape.rows == 5 && shape.columns == 8 && shape.entries == 13, READ, "example 1");
     holds(!memcmp(read_costs, costs, sizeof costs) && !memcmp(read_lengths, lengths, sizeof lengths) &&
               !memcmp(read_rows, rows, sizeof rows),
@@ -194,9 +206,8 @@ static void accepted(void) {
     holds(checked.refusal == 0 && checked.is_plan == 1 && checked.price == 17, CHECK, "example 1");
     holds(reduction.refusal == 0 && reduction.bound == 17 && reduction.used == 4, REDUCE, "example 1");
     holds(order[0] == 4 && order[1] == 1 && order[2] == 2 && order[3] == 5, REDUCE, "the order of example 1");
-    holds(answer.outcome == SPP_BEST && answer.price == 17 && answer.nodes == 3 && answer.columns == 3, SEARCH, "example 1");
-    holds(!memcmp(found, plan, sizeof plan), SEARCH, "the plan of example 1");
-    holds(equal_answers(answer, core_answer) && !memcmp(found, core_found, sizeof plan), SEARCH, "header and engine");
+    accepted_search(SEARCH, plan, 17, 17);
+    accepted_search(LONGEST, longest_plan, 7, 6);
 }
 
 int main(void) {
@@ -204,7 +215,7 @@ int main(void) {
     struct spp_written written = spp_write(5, costs, 8, lengths, 8, rows, 13, file, sizeof file);
     holds(written.refusal == 0 && written.length == sizeof file, WRITE, "example 1");
     accepted();
-    for (call = READ; call <= SEARCH; call++) {
+    for (call = READ; call <= LONGEST; call++) {
         pairs((enum call)call);
         nulls((enum call)call);
     }

@@ -1,4 +1,4 @@
-//! The answers of the five calls, as in include/spp.h. Fields that a case does not use are 0.
+//! The answers of the calls, as in include/spp.h. Fields that a case does not use are 0.
 
 /// Values of `Answer::outcome`.
 pub const BEST: u32 = 1;
@@ -43,7 +43,7 @@ pub struct Reduced {
     pub bound: u64,
 }
 
-/// What the search answers.
+/// What a search answers.
 #[repr(C)]
 #[derive(Clone, Copy, Debug, Default, PartialEq, Eq)]
 pub struct Answer {

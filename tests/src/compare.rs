@@ -2,6 +2,7 @@
 //! lent list, and the places before and behind it.
 
 use spp_tests::answers::{Answer, Checked, Reduced, Shape, Written};
+use spp_tests::goal::Goal;
 use spp_tests::{engine, plain};
 
 use crate::report::{hex, Report};
@@ -96,21 +97,23 @@ pub fn reduce(report: &mut Report, file: &[u8], rooms: [usize; 2]) -> (Reduced, 
     found
 }
 
-pub fn search(report: &mut Report, file: &[u8], limit: u32, room: usize) -> (Answer, Vec<u16>) {
-    let run = |call: fn(&[u8], u32, &mut [u16]) -> Answer| {
+pub fn search(report: &mut Report, goal: Goal, file: &[u8], limit: u32, room: usize) -> (Answer, Vec<u16>) {
+    let run = |call: fn(Goal, &[u8], u32, &mut [u16]) -> Answer| {
         let mut plan = shorts(room);
-        (call(file, limit, plan.list_mut()), plan)
+        (call(goal, file, limit, plan.list_mut()), plan)
     };
     let found = run(engine::search);
-    report.same(&found, &run(plain::search), || format!("search, allowance {limit}, room {room}, {}", hex(file)));
+    report.same(&found, &run(plain::search), || format!("search ({goal}), allowance {limit}, room {room}, {}", hex(file)));
     let shown = (found.0.columns as usize).min(room);
     (found.0, found.1.list()[..shown].to_vec())
 }
 
-/// All four calls that take a file, with room for any file.
+/// All calls that take a file, with room for any file.
 pub fn all_calls(report: &mut Report, file: &[u8], limit: u32) {
     read(report, file, [256, 256, 4096]);
     check(report, file, &[1]);
     reduce(report, file, [256, 64]);
-    search(report, file, limit, 64);
+    for goal in Goal::BOTH {
+        search(report, goal, file, limit, 64);
+    }
 }

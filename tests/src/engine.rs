@@ -1,6 +1,7 @@
-//! The static library's five calls on slices. Slices are never null and a `&mut` slice overlaps no other, which is what the library asks.
+//! The static library's calls on slices. Slices are never null and a `&mut` slice overlaps no other, which is what the library asks.
 
 use crate::answers::{Answer, Checked, Reduced, Shape, Written};
+use crate::goal::Goal;
 
 extern "C" {
     fn spp_core_read(
@@ -34,6 +35,7 @@ extern "C" {
         order_count: usize,
     ) -> Reduced;
     fn spp_core_search(file: *const u8, file_count: usize, node_limit: u32, plan: *mut u16, plan_count: usize) -> Answer;
+    fn spp_core_longest(file: *const u8, file_count: usize, node_limit: u32, plan: *mut u16, plan_count: usize) -> Answer;
 }
 
 pub fn read(file: &[u8], costs: &mut [u32], lengths: &mut [u16], numbers: &mut [u8]) -> Shape {
@@ -75,6 +77,10 @@ pub fn reduce(file: &[u8], reduced: &mut [u32], order: &mut [u8]) -> Reduced {
     unsafe { spp_core_reduce(file.as_ptr(), file.len(), reduced.as_mut_ptr(), reduced.len(), order.as_mut_ptr(), order.len()) }
 }
 
-pub fn search(file: &[u8], limit: u32, plan: &mut [u16]) -> Answer {
-    unsafe { spp_core_search(file.as_ptr(), file.len(), limit, plan.as_mut_ptr(), plan.len()) }
+pub fn search(goal: Goal, file: &[u8], limit: u32, plan: &mut [u16]) -> Answer {
+    let (file, file_count, plan, plan_count) = (file.as_ptr(), file.len(), plan.as_mut_ptr(), plan.len());
+    match goal {
+        Goal::Sum => unsafe { spp_core_search(file, file_count, limit, plan, plan_count) },
+        Goal::Longest => unsafe { spp_core_longest(file, file_count, limit, plan, plan_count) },
+    }
 }

@@ -98,6 +98,11 @@ pub fn example_4() -> Columns {
     )
 }
 
+/// Section 6 has the matrix and the costs of example 1, with the largest cost as the price.
+pub fn example_7() -> Columns {
+    example_1()
+}
+
 /// 17 rows, 256 columns, each of which covers all rows but one, so that any two share a row and no plan exists. Taking a column ends
 /// dead at once, and leaving one out leaves each row about 240 columns less one: the tree is one path of some 240 nodes, with a dead node
 /// beside each of them. 4,096 entries.

@@ -1,12 +1,13 @@
 //! Tests and benchmarks of the engine's static library.
 //!
-//! `plain` is an implementation of 01's rules, tree and all, written from the paper and 01. `second` finds the cheapest price by another
-//! method and shares no code with it. `engine` calls the static library. `stored` works out what the repository stores.
+//! `plain` is an implementation of the rules of 01 and of 02, P1, tree and all, written from the papers. `second` finds the least price by
+//! another method and shares no code with it. `engine` calls the static library. `stored` works out what the repository stores.
 
 pub mod answers;
 pub mod engine;
 pub mod files;
 pub mod generate;
+pub mod goal;
 pub mod plain;
 pub mod random;
 pub mod second;

@@ -2,12 +2,28 @@
 
 use std::fmt::Debug;
 
+use spp_tests::goal::Goal;
+
 /// Differences that are printed; further ones are only counted.
 const MOST_PRINTED: usize = 20;
 
+/// Cases that are counted together.
+struct Group {
+    name: &'static str,
+    /// The goal, where each goal has a count of its own.
+    goal: Option<Goal>,
+    cases: usize,
+}
+
+impl Group {
+    fn title(&self) -> String {
+        self.goal.map_or(self.name.into(), |goal| format!("{} ({goal})", self.name))
+    }
+}
+
 #[derive(Default)]
 pub struct Report {
-    groups: Vec<(&'static str, usize)>,
+    groups: Vec<Group>,
     current: usize,
     differences: usize,
 }
@@ -15,22 +31,32 @@ pub struct Report {
 impl Report {
     /// Starts or resumes a group; what is compared next counts there.
     pub fn group(&mut self, name: &'static str) {
-        self.current = self.groups.iter().position(|group| group.0 == name).unwrap_or(self.groups.len());
-        if self.current == self.groups.len() {
-            self.groups.push((name, 0));
+        self.resume(name, None);
+    }
+
+    /// The same, for a goal.
+    pub fn group_of(&mut self, goal: Goal, name: &'static str) {
+        self.resume(name, Some(goal));
+    }
+
+    fn resume(&mut self, name: &'static str, goal: Option<Goal>) {
+        let place = self.groups.iter().position(|group| group.name == name && group.goal == goal);
+        self.current = place.unwrap_or(self.groups.len());
+        if place.is_none() {
+            self.groups.push(Group { name, goal, cases: 0 });
         }
     }
 
     /// One case: the two values must be equal.
     pub fn same<T: PartialEq + Debug>(&mut self, found: &T, wanted: &T, what: impl FnOnce() -> String) {
         let group = &mut self.groups[self.current];
-        group.1 += 1;
+        group.cases += 1;
         if found == wanted {
             return;
         }
         self.differences += 1;
         if self.differences <= MOST_PRINTED {
-            println!("DIFFERENCE in {}: {}\n  found  {}\n  wanted {}", group.0, what(), shown(found), shown(wanted));
+            println!("DIFFERENCE in {}: {}\n  found  {}\n  wanted {}", group.title(), what(), shown(found), shown(wanted));
         }
     }
 
@@ -41,10 +67,10 @@ impl Report {
 
     /// Prints the counts; true if nothing differs.
     pub fn finish(&self) -> bool {
-        for (name, cases) in &self.groups {
-            println!("{cases:>9}  {name}");
+        for group in &self.groups {
+            println!("{:>9}  {}", group.cases, group.title());
         }
-        let total: usize = self.groups.iter().map(|group| group.1).sum();
+        let total: usize = self.groups.iter().map(|group| group.cases).sum();
         println!("{total:>9}  cases compared in total, {} differences", self.differences);
         self.differences == 0
     }

@@ -1,9 +1,10 @@
-//! A second solver. It tries sets of covered rows instead of branching on columns: a table gives the least price for each set that can be
-//! reached by covering the lowest open row again and again. It reads no file: it takes the columns as they were made.
+//! A second solver. It tries sets of covered rows instead of branching on columns: a table gives the least price, by the goal, for each set
+//! that can be reached by covering the lowest open row again and again. It reads no file: it takes the columns as they were made.
 
 use std::collections::HashMap;
 
 use crate::files::Columns;
+use crate::goal::Goal;
 
 /// The rows of each column as a set: bit i stands for row i + 1.
 fn row_sets(columns: &Columns) -> Vec<u64> {
@@ -32,8 +33,21 @@ pub enum Least {
     Unknown,
 }
 
+/// The price of some columns and one more.
+fn with(goal: Goal, price: u64, cost: u32) -> u64 {
+    match goal {
+        Goal::Sum => price + cost as u64,
+        Goal::Longest => price.max(cost as u64),
+    }
+}
+
+/// The price of a plan, whose columns are numbered from 1.
+pub fn price(columns: &Columns, plan: &[u16], goal: Goal) -> u64 {
+    plan.iter().fold(0, |price, &column| with(goal, price, columns.costs[column as usize - 1]))
+}
+
 /// The least price of a plan, by a table of at most `most` sets of covered rows.
-pub fn least_price(columns: &Columns, most: usize) -> Least {
+pub fn least_price(columns: &Columns, goal: Goal, most: usize) -> Least {
     let sets = row_sets(columns);
     let starters = by_lowest_row(&sets, columns.rows);
     let rows = columns.rows as usize;
@@ -50,7 +64,7 @@ pub fn least_price(columns: &Columns, most: usize) -> Least {
                     continue;
                 }
                 let next = covered | sets[column];
-                let next_price = price + columns.costs[column] as u64;
+                let next_price = with(goal, price, columns.costs[column]);
                 let least = tables[next.trailing_ones() as usize].entry(next).or_insert(next_price);
                 *least = next_price.min(*least);
             }

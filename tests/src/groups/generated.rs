@@ -1,11 +1,12 @@
-//! Generated files: every call against `plain`, the search against the second solver, every plan shown against the plan check, and floor
-//! plus reduced prices against the price of every plan.
+//! Generated files: every call against `plain`, both searches against the second solver, every plan shown against the plan check, and
+//! floor plus reduced prices against the price of every plan.
 
 use spp_tests::answers::{Answer, STOPPED};
 use spp_tests::files::Columns;
 use spp_tests::generate;
+use spp_tests::goal::Goal;
 use spp_tests::random::Random;
-use spp_tests::second::{each_plan, least_price, Least};
+use spp_tests::second::{each_plan, least_price, price, Least};
 
 use super::{limits, prices};
 use crate::compare::{self, Lists};
@@ -19,7 +20,7 @@ struct Family {
     name: &'static str,
     make: fn(&mut Random) -> Columns,
     files: usize,
-    /// The node limit of the search.
+    /// The node limit of the searches.
     limit: u32,
     /// Trees up to this size are searched with every node limit.
     every_limit: u32,
@@ -40,10 +41,9 @@ fn families() -> Vec<Family> {
     ]
 }
 
-/// What the run says besides the counted cases.
+/// What the run says of a goal's searches besides the counted cases.
 #[derive(Default)]
 struct Totals {
-    files: usize,
     stopped: usize,
     unknown: usize,
     nodes: u64,
@@ -53,28 +53,30 @@ pub fn run(report: &mut Report) {
     println!("generated files:");
     for (number, family) in families().iter().enumerate() {
         let mut random = Random::new(1974 + number as u64);
-        let mut totals = Totals::default();
+        let mut totals = Goal::BOTH.map(|goal| (goal, Totals::default()));
         for _ in 0..family.files {
             one_file(report, family, &mut random, &mut totals);
         }
-        let Totals { files, stopped, unknown, nodes } = totals;
-        println!(
-            "  {:<12} {files:>5} files, {nodes:>6} nodes, {stopped} stopped, {unknown} too large for the second solver",
-            family.name
-        );
+        for (goal, Totals { stopped, unknown, nodes }) in totals {
+            let Family { name, files, .. } = family;
+            println!(
+                "  {name:<12} {goal:<12} {files:>5} files, {nodes:>6} nodes, {stopped} stopped, {unknown} too large for the second solver"
+            );
+        }
     }
 }
 
-fn one_file(report: &mut Report, family: &Family, random: &mut Random, totals: &mut Totals) {
+fn one_file(report: &mut Report, family: &Family, random: &mut Random, totals: &mut [(Goal, Totals)]) {
     let columns = (family.make)(random);
     let file = columns.file();
     file_and_lists(report, &columns, &file);
     offered_lists(report, &columns, &file, random);
     reductions(report, &columns, &file, family.plans);
-    let answer = searches(report, &columns, &file, family.limit, totals);
-    limits::every(report, &columns, &file, &answer, family.every_limit);
-    totals.files += 1;
-    totals.nodes += answer.nodes as u64;
+    for (goal, totals) in totals {
+        let answer = searches(report, *goal, &columns, &file, family.limit, totals);
+        limits::every(report, *goal, &columns, &file, &answer, family.every_limit);
+        totals.nodes += answer.nodes as u64;
+    }
 }
 
 /// Reads the file back, and writes it from what was read.
@@ -123,33 +125,33 @@ fn reductions(report: &mut Report, columns: &Columns, file: &[u8], most_plans: u
     }
     report.group("floor plus reduced prices equals price, for plans of generated files");
     each_plan(columns, most_plans, |plan| {
-        let price: u64 = plan.iter().map(|&column| columns.costs[column as usize - 1] as u64).sum();
         let rest: u64 = plan.iter().map(|&column| reduced.list()[column as usize - 1] as u64).sum();
-        report.same(&(answer.bound + rest), &price, || format!("plan {plan:?}, {}", hex(file)));
+        report.same(&(answer.bound + rest), &price(columns, plan, Goal::Sum), || format!("plan {plan:?}, {}", hex(file)));
     });
 }
 
 /// Searches, and holds the answer to the second solver and the plan shown to the plan check.
-fn searches(report: &mut Report, columns: &Columns, file: &[u8], limit: u32, totals: &mut Totals) -> Answer {
-    report.group("search: answers, node counts, root floors and plan lists against (a)");
-    let (answer, plan) = compare::search(report, file, limit, columns.rows as usize + 3);
-    plan_shown(report, columns, file, &answer, &plan);
+fn searches(report: &mut Report, goal: Goal, columns: &Columns, file: &[u8], limit: u32, totals: &mut Totals) -> Answer {
+    report.group_of(goal, "search: answers, node counts, root floors and plan lists against (a)");
+    let (answer, plan) = compare::search(report, goal, file, limit, columns.rows as usize + 3);
+    plan_shown(report, goal, columns, file, &answer, &plan);
     totals.stopped += (answer.outcome == STOPPED) as usize;
-    let least = least_price(columns, MOST_SETS);
-    report.group("search: best price, none and root floor against the second solver");
+    let least = least_price(columns, goal, MOST_SETS);
+    report.group_of(goal, "search: best price, none and root floor against the second solver");
     totals.unknown += (least == Least::Unknown) as usize;
     prices::compare(report, &answer, least, || hex(file));
     answer
 }
 
-/// A plan shown is one, by the engine's plan check, by (a)'s, and by the columns as they were made.
-pub fn plan_shown(report: &mut Report, columns: &Columns, file: &[u8], answer: &Answer, plan: &[u16]) {
+/// A plan shown is one at the price given, by the engine's plan check, by (a)'s, and by the columns as they were made.
+pub fn plan_shown(report: &mut Report, goal: Goal, columns: &Columns, file: &[u8], answer: &Answer, plan: &[u16]) {
     if answer.has_plan == 0 {
         return;
     }
-    report.group("plans shown pass the plan check");
+    report.group_of(goal, "plans shown pass the plan check and have the price given");
     let checked = compare::check(report, file, plan);
-    report.same(&(checked.is_plan, checked.price), &(1, answer.price), || format!("{plan:?}, {}", hex(file)));
+    let (sum, wanted) = (price(columns, plan, Goal::Sum), price(columns, plan, goal));
+    report.same(&(checked.is_plan, checked.price, answer.price), &(1, sum, wanted), || format!("{plan:?}, {}", hex(file)));
     let mut covered: Vec<u8> = plan.iter().flat_map(|&column| columns.bodies[column as usize - 1].clone()).collect();
     covered.sort_unstable();
     report.holds(covered == (1..=columns.rows as u8).collect::<Vec<u8>>(), || format!("{plan:?}, {}", hex(file)));

@@ -2,6 +2,7 @@
 
 use spp_tests::answers::{Answer, STOPPED};
 use spp_tests::files::Columns;
+use spp_tests::goal::Goal;
 
 use crate::compare;
 use crate::report::{hex, Report};
@@ -9,33 +10,33 @@ use crate::report::{hex, Report};
 const GROUP: &str = "allowances from 1 to the tree's size, 0, 1,000,000 and 1,000,001";
 
 /// All node limits of a tree whose answer is given, where it has at most `most` nodes; else some of them.
-pub fn every(report: &mut Report, columns: &Columns, file: &[u8], answer: &Answer, most: u32) {
+pub fn every(report: &mut Report, goal: Goal, columns: &Columns, file: &[u8], answer: &Answer, most: u32) {
     let room = columns.rows as usize;
-    report.group(GROUP);
+    report.group_of(goal, GROUP);
     for limit in [0, 1_000_001, u32::MAX] {
-        let found = compare::search(report, file, limit, room).0;
+        let found = compare::search(report, goal, file, limit, room).0;
         report.same(&found.refusal, &11, || format!("allowance {limit}, {}", hex(file)));
     }
     if answer.outcome == STOPPED {
-        return some_of(report, columns, file, answer, &[1, 2, 10, answer.nodes / 2, answer.nodes - 1]);
+        return some_of(report, goal, columns, file, answer, &[1, 2, 10, answer.nodes / 2, answer.nodes - 1]);
     }
-    let whole = compare::search(report, file, 1_000_000, room).0;
+    let whole = compare::search(report, goal, file, 1_000_000, room).0;
     report.same(&whole, answer, || hex(file));
     if answer.nodes > most {
         let ends = [1, 2, answer.nodes - 1, answer.nodes, answer.nodes + 1];
-        return some_of(report, columns, file, answer, &ends);
+        return some_of(report, goal, columns, file, answer, &ends);
     }
     let all: Vec<u32> = (1..=answer.nodes + 1).collect();
-    some_of(report, columns, file, answer, &all);
+    some_of(report, goal, columns, file, answer, &all);
 }
 
 /// Some limits of a tree whose answer is given: stopped exactly where the limit is below the answer's nodes.
-fn some_of(report: &mut Report, columns: &Columns, file: &[u8], answer: &Answer, limits: &[u32]) {
+fn some_of(report: &mut Report, goal: Goal, columns: &Columns, file: &[u8], answer: &Answer, limits: &[u32]) {
     for &limit in limits {
-        let (found, plan) = compare::search(report, file, limit, columns.rows as usize);
+        let (found, plan) = compare::search(report, goal, file, limit, columns.rows as usize);
         report.same(&(found.outcome == STOPPED), &(limit < answer.nodes), || format!("allowance {limit}, {}", hex(file)));
-        super::generated::plan_shown(report, columns, file, &found, &plan);
-        report.group(GROUP);
+        super::generated::plan_shown(report, goal, columns, file, &found, &plan);
+        report.group_of(goal, GROUP);
     }
 }
 
@@ -50,7 +51,9 @@ fn all_pairs() -> Columns {
 pub fn largest(report: &mut Report) {
     let columns = all_pairs();
     let file = columns.file();
-    report.group(GROUP);
-    let answer = compare::search(report, &file, 1_000_000, 15).0;
-    report.same(&(answer.outcome, answer.nodes), &(STOPPED, 1_000_000), || "all pairs of 15 rows".into());
+    for goal in Goal::BOTH {
+        report.group_of(goal, GROUP);
+        let answer = compare::search(report, goal, &file, 1_000_000, 15).0;
+        report.same(&(answer.outcome, answer.nodes), &(STOPPED, 1_000_000), || "all pairs of 15 rows".into());
+    }
 }

@@ -2,6 +2,7 @@
 
 use spp_tests::files::{self, columns, Columns};
 use spp_tests::generate;
+use spp_tests::goal::Goal;
 use spp_tests::random::Random;
 
 use crate::compare::{self, Lists};
@@ -73,11 +74,13 @@ fn others(report: &mut Report, columns: &Columns, file: &[u8]) {
     for room in about(m) {
         let found = compare::reduce(report, file, [n, room]).0;
         report.same(&found.refusal, &refusal(room, m), || hex(file));
-        let found = compare::search(report, file, 500, room).0;
-        report.same(&found.refusal, &refusal(room, m), || hex(file));
-        // A short list comes before a node limit out of range.
-        let found = compare::search(report, file, 0, room).0;
-        report.same(&found.refusal, &if room < m { 10 } else { 11 }, || hex(file));
+        for goal in Goal::BOTH {
+            let found = compare::search(report, goal, file, 500, room).0;
+            report.same(&found.refusal, &refusal(room, m), || hex(file));
+            // A short list comes before a node limit out of range.
+            let found = compare::search(report, goal, file, 0, room).0;
+            report.same(&found.refusal, &if room < m { 10 } else { 11 }, || hex(file));
+        }
     }
 }
 

@@ -1,7 +1,9 @@
 //! What the repository stores against what `spp_tests::stored` works out anew: the outputs of the gate's programs, the tables of the rules
 //! and the lines of the samples. In a difference, what is found is stored and what is wanted is worked out; the program `remake` prints it.
+//! The samples are searched for both goals besides.
 
 use spp_tests::files::{self, Columns};
+use spp_tests::goal::Goal;
 use spp_tests::second::{least_price, Least};
 use spp_tests::stored::samples::List;
 use spp_tests::stored::search_files::{self, Search};
@@ -15,6 +17,9 @@ use crate::report::Report;
 /// Sets of covered rows that the second solver may hold.
 const MOST_SETS: usize = 1_000_000;
 
+/// The node limit of the samples' searches.
+const SAMPLE_LIMIT: u32 = 20_000;
+
 pub fn run(report: &mut Report) {
     report.group("stored outputs of the gate's programs, line by line against (a)");
     PROGRAMS.iter().for_each(|program| output(report, program));
@@ -26,6 +31,7 @@ pub fn run(report: &mut Report) {
     let searches = given(report, search_files::searches()).unwrap_or_default();
     samples::LISTS.iter().for_each(|list| sample_lines(report, list));
     sample_files(report, &searches);
+    sample_searches(report);
     report.group("stored prices against the second solver");
     second_solver(report, &searches);
 }
@@ -71,6 +77,7 @@ fn example(name: &str) -> Option<Columns> {
         "example2" => Some(files::example_2()),
         "example3" => Some(files::example_3()),
         "example4" => Some(files::example_4()),
+        "example7" => Some(files::example_7()),
         _ => None,
     }
 }
@@ -84,9 +91,9 @@ fn table_place(report: &mut Report, file: &str, place: &Place) {
     }
     match place.question {
         Question::Order => drop(compare::reduce(report, &bytes, [columns.costs.len(), rows])),
-        Question::Search(limit) => {
-            let answer = compare::search(report, &bytes, limit, rows).0;
-            prices::compare(report, &answer, least_price(columns, MOST_SETS), || format!("second solver, {name}"));
+        Question::Search(goal, limit) => {
+            let answer = compare::search(report, goal, &bytes, limit, rows).0;
+            prices::compare(report, &answer, least_price(columns, goal, MOST_SETS), || format!("second solver, {name}"));
         }
     }
 }
@@ -123,12 +130,25 @@ fn sample_files(report: &mut Report, searches: &[Search]) {
     report.holds(in_gate > 0, || format!("{}: has no sample", search_files::INPUT));
 }
 
+/// Each sample, searched for both goals.
+fn sample_searches(report: &mut Report) {
+    for name in given(report, samples::names()).unwrap_or_default() {
+        let Some(file) = given(report, samples::file(&name)) else { continue };
+        for goal in Goal::BOTH {
+            report.group_of(goal, "samples: searches against (a) and the second solver");
+            let answer = compare::search(report, goal, &file, SAMPLE_LIMIT, 64).0;
+            let least = input::columns(&file).map_or(Least::Unknown, |columns| least_price(&columns, goal, MOST_SETS));
+            prices::compare(report, &answer, least, || format!("samples/{name}"));
+        }
+    }
+}
+
 /// The searches of the gate's input that are not refused.
 fn second_solver(report: &mut Report, searches: &[Search]) {
     let (mut accepted, mut known) = (0, 0);
     for search in searches.iter().filter(|search| search.answer.refusal == 0) {
         let Some(columns) = input::columns(&search.file) else { continue };
-        let least = least_price(&columns, MOST_SETS);
+        let least = least_price(&columns, Goal::Sum, MOST_SETS);
         accepted += 1;
         known += (least != Least::Unknown) as usize;
         prices::compare(report, &search.answer, least, || format!("{}: {}", search_files::INPUT, search.name));

@@ -1,8 +1,10 @@
-//! The paper's examples 1 to 4 and 01's "Files to try", with the values that are stated there.
+//! The paper's examples 1 to 4 and 7, and 01's "Files to try", with the values that are stated there; and small files that show one rule of
+//! the search for the longest duty each.
 
 use spp_tests::answers::{Answer, Shape, BEST, NONE, STOPPED};
 use spp_tests::engine;
 use spp_tests::files::{self, columns, Columns};
+use spp_tests::goal::Goal;
 use spp_tests::second::least_price;
 
 use super::prices;
@@ -27,12 +29,29 @@ fn stopped_with(price: u64, bound: u64, nodes: u32, columns: u32) -> Answer {
     Answer { outcome: STOPPED, has_plan: 1, columns, price, ..stopped(bound, nodes) }
 }
 
+fn one_duty() -> Columns {
+    columns(1, &[(&[1], 5)])
+}
+
+fn twice() -> Columns {
+    columns(1, &[(&[1], 5), (&[1], 5)])
+}
+
+fn uncovered() -> Columns {
+    columns(2, &[(&[1], 3)])
+}
+
+fn two_or_one() -> Columns {
+    columns(2, &[(&[1, 2], 9), (&[1], 4), (&[2], 4)])
+}
+
 fn triangle() -> Columns {
     columns(3, &[(&[1, 2], 1), (&[2, 3], 1), (&[1, 3], 1)])
 }
 
 /// A search with a stated answer and plan.
 struct Search {
+    goal: Goal,
     name: &'static str,
     columns: Columns,
     limit: u32,
@@ -40,15 +59,13 @@ struct Search {
     plan: &'static [u16],
 }
 
-fn searches() -> Vec<Search> {
-    let case = |name, columns, limit, answer, plan| Search { name, columns, limit, answer, plan };
-    let twice = columns(1, &[(&[1], 5), (&[1], 5)]);
-    let two_or_one = columns(2, &[(&[1, 2], 9), (&[1], 4), (&[2], 4)]);
+fn sum_searches() -> Vec<Search> {
+    let case = |name, columns, limit, answer, plan| Search { goal: Goal::Sum, name, columns, limit, answer, plan };
     vec![
-        case("one duty", columns(1, &[(&[1], 5)]), LIMIT, best(5, 5, 1, 1), &[1]),
-        case("the same duty twice", twice, LIMIT, best(5, 5, 2, 1), &[1]),
-        case("a sailing without a duty", columns(2, &[(&[1], 3)]), LIMIT, none(1), &[]),
-        case("two duties cheaper than one", two_or_one, LIMIT, best(8, 8, 2, 2), &[2, 3]),
+        case("one duty", one_duty(), LIMIT, best(5, 5, 1, 1), &[1]),
+        case("the same duty twice", twice(), LIMIT, best(5, 5, 2, 1), &[1]),
+        case("a sailing without a duty", uncovered(), LIMIT, none(1), &[]),
+        case("two duties cheaper than one", two_or_one(), LIMIT, best(8, 8, 2, 2), &[2, 3]),
         case("triangle", triangle(), LIMIT, none(3), &[]),
         case("triangle, allowance 2", triangle(), 2, stopped(1, 2), &[]),
         case("example 1", files::example_1(), LIMIT, best(17, 17, 3, 3), &[1, 4, 7]),
@@ -59,6 +76,40 @@ fn searches() -> Vec<Search> {
         case("example 4, allowance 5", files::example_4(), 5, stopped_with(46, 39, 5, 3), &[2, 5, 10]),
         case("example 4, allowance 3", files::example_4(), 3, stopped_with(49, 39, 3, 3), &[5, 7, 8]),
         case("example 4", files::example_4(), LIMIT, best(42, 39, 6, 3), &[3, 6, 9]),
+    ]
+}
+
+/// In the second node column 4 is forced at 7; the third is a plan at 5, by columns 2 and 5.
+fn forced_dear() -> Columns {
+    columns(3, &[(&[1, 3], 1), (&[1, 2], 4), (&[2, 3], 4), (&[2], 7), (&[3], 5)])
+}
+
+fn longest_searches() -> Vec<Search> {
+    let case = |name, columns, limit, answer, plan| Search { goal: Goal::Longest, name, columns, limit, answer, plan };
+    let open_row = columns(2, &[(&[1], 2), (&[1], 3), (&[2], 5), (&[2], 7)]);
+    let taken_column = columns(2, &[(&[1], 9), (&[2], 2), (&[2], 3)]);
+    let equal_floor = columns(3, &[(&[1, 3], 1), (&[1, 2], 4), (&[2, 3], 4), (&[2], 7), (&[3], 7), (&[3], 8)]);
+    let penalised = columns(3, &[(&[1, 3], 1), (&[1, 2], 6), (&[2, 3], 4), (&[2], 5)]);
+    let root_forced = columns(4, &[(&[4], 6), (&[1, 3], 1), (&[1, 2], 4), (&[2, 3], 4), (&[2], 9), (&[3], 8)]);
+    let held_at_zero = columns(3, &[(&[1, 2], 2), (&[1], 1), (&[2, 3], 2), (&[3], 3)]);
+    vec![
+        case("example 7", files::example_7(), LIMIT, best(7, 6, 3, 3), &[2, 3, 7]),
+        case("example 7, allowance 2", files::example_7(), 2, stopped(6, 2), &[]),
+        case("an open sailing gives the floor", open_row, LIMIT, best(5, 5, 3, 2), &[1, 3]),
+        case("a duty taken gives the floor", taken_column, LIMIT, best(9, 9, 2, 2), &[1, 2]),
+        case("a dear duty is forced", forced_dear(), LIMIT, best(5, 4, 3, 2), &[2, 5]),
+        case("a dear duty is forced, allowance 2", forced_dear(), 2, stopped_with(7, 4, 2, 2), &[1, 4]),
+        case("a dear duty is forced, allowance 1", forced_dear(), 1, stopped(4, 1), &[]),
+        case("a floor equal to the kept price ends a node", equal_floor, LIMIT, best(7, 4, 3, 2), &[1, 4]),
+        case("the penalty shuts out the second branch", penalised, LIMIT, best(5, 4, 2, 2), &[1, 4]),
+        case("a duty forced at the root gives the floor", root_forced, LIMIT, best(8, 6, 3, 3), &[1, 3, 6]),
+        case("a reduced price below 0 counts as 0", held_at_zero, LIMIT, best(2, 2, 2, 2), &[2, 3]),
+        case("triangle", triangle(), LIMIT, none(3), &[]),
+        case("triangle, allowance 2", triangle(), 2, stopped(1, 2), &[]),
+        case("one duty", one_duty(), LIMIT, best(5, 5, 1, 1), &[1]),
+        case("the same duty twice", twice(), LIMIT, best(5, 5, 2, 1), &[1]),
+        case("a sailing without a duty", uncovered(), LIMIT, none(1), &[]),
+        case("two duties shorter than one", two_or_one(), LIMIT, best(4, 4, 2, 2), &[2, 3]),
     ]
 }
 
@@ -118,10 +169,10 @@ fn limits() -> Vec<(&'static str, Columns, u32)> {
 
 /// The search's stated answer and plan, and the second solver's price.
 fn stated_search(report: &mut Report, case: &Search) {
-    let found = compare::search(report, &case.columns.file(), case.limit, case.columns.rows as usize);
-    report.same(&found, &(case.answer, case.plan.to_vec()), || case.name.to_string());
-    let least = least_price(&case.columns, 10_000);
-    prices::compare(report, &case.answer, least, || format!("second solver, {}", case.name));
+    let Search { goal, name, columns, limit, answer, plan } = case;
+    let found = compare::search(report, *goal, &columns.file(), *limit, columns.rows as usize);
+    report.same(&found, &(*answer, plan.to_vec()), || format!("{name} ({goal})"));
+    prices::compare(report, answer, least_price(columns, *goal, 10_000), || format!("second solver, {name} ({goal})"));
 }
 
 fn stated_reduction(report: &mut Report, case: &Reduction) {
@@ -133,8 +184,8 @@ fn stated_reduction(report: &mut Report, case: &Reduction) {
 }
 
 pub fn run(report: &mut Report) {
-    report.group("stated values: the paper's examples, 01's files to try");
-    searches().iter().for_each(|case| stated_search(report, case));
+    report.group("stated values: the paper's examples, 01's files to try, a file for each rule of the longest duty");
+    sum_searches().iter().chain(&longest_searches()).for_each(|case| stated_search(report, case));
     reductions().iter().for_each(|case| stated_reduction(report, case));
     for (name, columns, refusal) in limits() {
         let found = compare::read(report, &columns.file(), [256, 256, 4096]);
@@ -151,6 +202,6 @@ fn program_example(report: &mut Report) {
     let shape = engine::read(&file, &mut costs, &mut lengths, &mut numbers);
     report.same(&shape, &Shape { refusal: 0, rows: 1, columns: 1, entries: 1 }, || "the program's file".into());
     report.same(&(costs, lengths, numbers), &([5], [1], [1]), || "the program's file".into());
-    let answer = engine::search(&file, LIMIT, &mut plan);
+    let answer = engine::search(Goal::Sum, &file, LIMIT, &mut plan);
     report.same(&(answer, plan), &(best(5, 5, 1, 1), [1]), || "the program's file".into());
 }

@@ -1,9 +1,10 @@
-//! The matrix by columns and by rows. Rows and columns count from 0 here.
+//! The matrix by columns and by rows, and the costs in the file. Rows and columns count from 0 here.
 
 use super::file::Duties;
 
 pub struct Matrix {
     pub rows: usize,
+    pub costs: Vec<u32>,
     column_starts: Vec<usize>,
     column_rows: Vec<u8>,
     row_starts: Vec<usize>,
@@ -29,6 +30,7 @@ impl Matrix {
         }
         Matrix {
             rows: duties.rows,
+            costs: duties.costs.clone(),
             column_starts,
             column_rows: duties.numbers.iter().map(|row| row - 1).collect(),
             row_starts,

@@ -1,6 +1,7 @@
-//! 01's rules in plain code: the same five calls as the static library, on slices.
+//! The rules of 01 and of 02, P1 in plain code: the same calls as the static library, on slices.
 
 mod file;
+mod goal;
 mod matrix;
 mod node;
 mod reduce;

@@ -2,6 +2,7 @@
 
 use super::file::Duties;
 use super::matrix::Matrix;
+use crate::goal::Goal;
 
 /// A column's mark.
 pub const OUT: u8 = 0;
@@ -38,9 +39,9 @@ impl Node {
         node
     }
 
-    /// Takes a column: its present cost is added to the bound, its rows close, and no column on these is free any more.
-    pub fn take(&mut self, matrix: &Matrix, column: usize) {
-        self.bound += self.costs[column] as u64;
+    /// Takes a column: the bound counts it as the goal does, its rows close, and no column on these is free any more.
+    pub fn take(&mut self, matrix: &Matrix, goal: Goal, column: usize) {
+        self.bound = goal.bound_with(matrix, self, column);
         for &row in matrix.rows_of(column) {
             self.open[row as usize] = false;
             for &other in matrix.columns_of(row as usize) {
@@ -53,7 +54,7 @@ impl Node {
     }
 
     /// Takes the single free column of the lowest row that has just one, until no row has just one.
-    pub fn force(&mut self, matrix: &Matrix) -> Forced {
+    pub fn force(&mut self, matrix: &Matrix, goal: Goal) -> Forced {
         loop {
             let mut single = None;
             let mut plan = true;
@@ -69,7 +70,7 @@ impl Node {
                 }
             }
             match single {
-                Some(column) => self.take(matrix, column),
+                Some(column) => self.take(matrix, goal, column),
                 None if plan => return Forced::Plan,
                 None => return Forced::Open,
             }

@@ -6,6 +6,7 @@ use super::file::{parse, Duties};
 use super::matrix::Matrix;
 use super::node::{Forced, Node, FREE, OUT};
 use crate::answers::{Answer, BEST, NONE, STOPPED};
+use crate::goal::Goal;
 
 const MOST_NODES: u32 = 1_000_000;
 
@@ -82,6 +83,7 @@ impl Node {
 /// A walk over the tree.
 struct Walk<'a> {
     matrix: &'a Matrix,
+    goal: Goal,
     limit: u32,
     nodes: u32,
     stopped: bool,
@@ -112,9 +114,9 @@ impl Walk<'_> {
 
     fn visit(&mut self, mut node: Node) {
         let is_root = self.nodes == 1;
-        let forced = node.force(self.matrix);
+        let forced = node.force(self.matrix, self.goal);
         if forced == Forced::Open {
-            node.reduce(self.matrix, |_| {});
+            self.goal.reduce(self.matrix, &mut node);
         }
         if is_root {
             self.root_bound = node.bound;
@@ -132,7 +134,7 @@ impl Walk<'_> {
     fn branch(&mut self, mut node: Node) {
         let Branching { column, penalty } = node.choose(self.matrix);
         let mut with = node;
-        with.take(self.matrix, column);
+        with.take(self.matrix, self.goal, column);
         self.enter(with);
         if self.stopped || self.ends(node.bound + penalty as u64) {
             return;
@@ -169,21 +171,22 @@ pub struct Tree {
 }
 
 /// Walks the tree of the file's columns.
-fn walk(duties: &Duties, limit: u32) -> Tree {
+fn walk(duties: &Duties, goal: Goal, limit: u32) -> Tree {
     let matrix = Matrix::new(duties);
-    let mut walk = Walk { matrix: &matrix, limit, nodes: 0, stopped: false, root_bound: 0, kept: None, depth: 0, deepest: 0 };
+    let mut walk =
+        Walk { matrix: &matrix, goal, limit, nodes: 0, stopped: false, root_bound: 0, kept: None, depth: 0, deepest: 0 };
     walk.enter(Node::root(duties));
     let plan = walk.kept.as_ref().map_or(Vec::new(), |(_, node)| node.taken());
     Tree { answer: walk.answer(), plan, deepest: walk.deepest }
 }
 
 /// Walks the tree of an accepted file with a node limit in range.
-pub fn tree(file: &[u8], limit: u32) -> Result<Tree, u32> {
-    parse(file).map(|duties| walk(&duties, limit))
+pub fn tree(goal: Goal, file: &[u8], limit: u32) -> Result<Tree, u32> {
+    parse(file).map(|duties| walk(&duties, goal, limit))
 }
 
 /// The search.
-pub fn search(file: &[u8], limit: u32, plan: &mut [u16]) -> Answer {
+pub fn search(goal: Goal, file: &[u8], limit: u32, plan: &mut [u16]) -> Answer {
     let refused = |refusal| Answer { refusal, ..Answer::default() };
     let duties = match parse(file) {
         Ok(duties) => duties,
@@ -195,7 +198,7 @@ pub fn search(file: &[u8], limit: u32, plan: &mut [u16]) -> Answer {
     if !(1..=MOST_NODES).contains(&limit) {
         return refused(11);
     }
-    let tree = walk(&duties, limit);
+    let tree = walk(&duties, goal, limit);
     plan[..tree.plan.len()].copy_from_slice(&tree.plan);
     tree.answer
 }

@@ -3,6 +3,7 @@
 use std::fs;
 
 use super::{bytes, input, line, repository, text};
+use crate::goal::Goal;
 use crate::plain;
 
 /// What a file of samples/ states of a sample, and where.
@@ -72,7 +73,7 @@ pub fn file(name: &str) -> Result<Vec<u8>, String> {
 
 /// A sample's line in samples/lines.txt.
 pub fn remade_line(name: &str) -> Result<String, String> {
-    let line = line::of(&plain::search(&file(name)?, 1_000_000, &mut [0; 64]));
+    let line = line::of(&plain::search(Goal::Sum, &file(name)?, 1_000_000, &mut [0; 64]));
     Ok(format!("{} {line}", name.trim_end_matches(".spp")))
 }
 

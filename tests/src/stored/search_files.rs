@@ -2,6 +2,7 @@
 
 use super::{input, line};
 use crate::answers::Answer;
+use crate::goal::Goal;
 use crate::plain;
 
 pub const INPUT: &str = "crates/search_files/stdin";
@@ -22,7 +23,7 @@ impl Search {
         };
         let limit = limit.parse().map_err(|_| format!("{INPUT}: {name}: {limit} is not a node limit"))?;
         let mut plan = vec![0; 64];
-        let answer = plain::search(&line.file, limit, &mut plan);
+        let answer = plain::search(Goal::Sum, &line.file, limit, &mut plan);
         plan.truncate(answer.columns as usize);
         Ok(Search { name: name.clone(), limit, file: line.file, answer, plan })
     }

@@ -1,6 +1,6 @@
-//! The tables of the rules, which are proved there by computing: `orders` and `cases` in crates/rules/specs/Cases.antt and `files` in
-//! Files.antt. A table is read as `NAME : QUESTIONS ≡ VALUES`, with the questions `order INSTANCE` or `solved INSTANCE LIMIT`. Of the
-//! rest of these files only instances and numbers are read.
+//! The tables of the rules, which are proved there by computing. A table is read as `NAME : QUESTIONS ≡ VALUES`, with the questions
+//! `order INSTANCE`, `solved INSTANCE LIMIT` for the sum, or `found INSTANCE LIMIT` for the longest duty. Of the rest of these files only
+//! instances and numbers are read.
 
 use super::names::Names;
 use super::reader::{statements, texts, Reader, Token};
@@ -8,17 +8,22 @@ use super::terms::{Form, Term};
 use super::text;
 use crate::answers::{Answer, BEST, NONE};
 use crate::files::Columns;
+use crate::goal::Goal;
 use crate::plain;
 
-const FILES: &str = "crates/rules/specs/Files.antt";
-const CASES: &str = "crates/rules/specs/Cases.antt";
+/// The files of the rules that hold tables, and the names of these.
+const TABLES: [(&str, &[&str]); 3] = [
+    ("crates/rules/specs/Files.antt", &["files"]),
+    ("crates/rules/specs/Cases.antt", &["orders", "cases"]),
+    ("crates/rules/specs/LongestCases.antt", &["longestCases"]),
+];
 
 /// What a place of a table asks of an instance.
 pub enum Question {
     /// The rows in the sequence that reducing uses them.
     Order,
-    /// The search's answer within a node limit.
-    Search(u32),
+    /// The answer of the search for a goal within a node limit.
+    Search(Goal, u32),
 }
 
 /// A place of a table: an instance, what is asked, and the value that is stored, with its line.
@@ -64,9 +69,9 @@ impl Place {
                 let answer = plain::reduce(&file, &mut [0; 256], &mut order);
                 list(&order[..answer.used as usize])
             }
-            Question::Search(limit) => {
+            Question::Search(goal, limit) => {
                 let mut plan = [0; 64];
-                let answer = plain::search(&file, limit, &mut plan);
+                let answer = plain::search(goal, &file, limit, &mut plan);
                 value(&answer, &plan[..answer.columns as usize])
             }
         }
@@ -78,7 +83,7 @@ impl Table {
     pub fn remade(&self) -> String {
         let enclosed = |place: &Place| match place.question {
             Question::Order => format!("({})", place.remade()),
-            Question::Search(_) => place.remade(),
+            Question::Search(..) => place.remade(),
         };
         let lines: Vec<String> = self.places.iter().map(enclosed).collect();
         format!("    ({}\n    ∷ [])\n", lines.join("\n    ∷ "))
@@ -87,12 +92,14 @@ impl Table {
 
 /// What a place asks: the instance's name, and the question.
 fn question(term: &Term, names: &Names) -> Option<(String, Question)> {
+    let search = |goal: Goal, limit: &str| {
+        let limit = names.numbers.get(limit).copied().or_else(|| limit.parse().ok())?;
+        Some(Question::Search(goal, limit))
+    };
     match term.words()?[..] {
         ["order", name] => Some((name.to_string(), Question::Order)),
-        ["solved", name, limit] => {
-            let limit = names.numbers.get(limit).copied().or_else(|| limit.parse().ok())?;
-            Some((name.to_string(), Question::Search(limit)))
-        }
+        ["solved", name, limit] => Some((name.to_string(), search(Goal::Sum, limit)?)),
+        ["found", name, limit] => Some((name.to_string(), search(Goal::Longest, limit)?)),
         _ => None,
     }
 }
@@ -125,18 +132,18 @@ fn table(file: &'static str, name: &'static str, statements: &[Vec<Token>], name
 
 /// All tables. Each instance must stand in one of them.
 pub fn tables() -> Result<Vec<Table>, String> {
-    let (files, cases) = (statements(&text(FILES)?), statements(&text(CASES)?));
     let mut names = Names::default();
-    names.read(FILES, &files)?;
-    names.read(CASES, &cases)?;
-    let tables = vec![
-        table(FILES, "files", &files, &names)?,
-        table(CASES, "orders", &cases, &names)?,
-        table(CASES, "cases", &cases, &names)?,
-    ];
+    let mut tables = Vec::new();
+    for (file, in_file) in TABLES {
+        let statements = statements(&text(file)?);
+        names.read(file, &statements)?;
+        for &name in in_file {
+            tables.push(table(file, name, &statements, &names)?);
+        }
+    }
     let is_used = |name: &String| tables.iter().any(|table| table.places.iter().any(|place| place.name == *name));
     match names.instances.keys().find(|name| !is_used(name)) {
-        Some(name) => Err(format!("{FILES} and {CASES}: {name} stands in no table")),
+        Some(name) => Err(format!("crates/rules/specs: {name} stands in no table")),
         None => Ok(tables),
     }
 }

@@ -2,6 +2,7 @@
 
 use spp_tests::answers::STOPPED;
 use spp_tests::files::Columns;
+use spp_tests::goal::Goal;
 use spp_tests::random::Random;
 use spp_tests::{engine, generate, plain};
 
@@ -23,8 +24,8 @@ fn measured(file: &[u8]) -> [Runs; 3] {
     let (mut plan, mut other) = ([0; 64], [0; 64]);
     let (search, base) = measure::in_turn(
         REPEATS,
-        || measure::keep(engine::search(file, LIMIT, &mut plan)),
-        || measure::keep(plain::search(file, LIMIT, &mut other)),
+        || measure::keep(engine::search(Goal::Sum, file, LIMIT, &mut plan)),
+        || measure::keep(plain::search(Goal::Sum, file, LIMIT, &mut other)),
     );
     let (mut reduced, mut order) = ([0; 256], [0; 64]);
     let reduce = measure::repeated(REPEATS, || measure::keep(engine::reduce(file, &mut reduced, &mut order)));
@@ -38,7 +39,7 @@ fn line(rows: usize, columns: usize, longest: usize) {
     let mut times: [Vec<Runs>; 3] = Default::default();
     for sample in &samples {
         let file = sample.file();
-        let answer = engine::search(&file, LIMIT, &mut [0; 64]);
+        let answer = engine::search(Goal::Sum, &file, LIMIT, &mut [0; 64]);
         nodes += answer.nodes;
         stopped += (answer.outcome == STOPPED) as usize;
         times.iter_mut().zip(measured(&file)).for_each(|(all, runs)| all.push(runs));

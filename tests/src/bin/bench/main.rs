@@ -15,6 +15,8 @@ mod stack;
 
 use std::fs;
 
+use spp_tests::goal::Goal;
+
 /// The processor's name as the system gives it.
 fn processor() -> String {
     let text = fs::read_to_string("/proc/cpuinfo").unwrap_or_default();
@@ -44,9 +46,10 @@ fn main() {
         return processes::solve(&words[2]);
     }
     machine();
-    let files = nodes::ferry_files();
-    nodes::table(&files);
+    let files = nodes::ferry_files(Goal::Sum);
+    nodes::table(Goal::Sum, &files);
     solvers::table(&files);
+    nodes::table(Goal::Longest, &nodes::ferry_files(Goal::Longest));
     calls::table();
     growth::table();
     stack::table();

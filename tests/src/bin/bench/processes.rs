@@ -5,6 +5,7 @@ use std::path::{Path, PathBuf};
 use std::process::{Command, Stdio};
 
 use spp_tests::engine;
+use spp_tests::goal::Goal;
 
 use crate::measure;
 use crate::model::model;
@@ -19,7 +20,7 @@ const MODEL: &str = "model.lp";
 pub fn solve(name: &str) {
     let file = fs::read(name).expect("the file can be read");
     let mut plan = [0; 64];
-    let (answer, seconds) = measure::call(|| engine::search(&file, 1_000_000, &mut plan));
+    let (answer, seconds) = measure::call(|| engine::search(Goal::Sum, &file, 1_000_000, &mut plan));
     println!("{} {seconds}", answer.price);
 }
 

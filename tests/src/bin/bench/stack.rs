@@ -1,13 +1,15 @@
-//! How much stack the search needs on the file with the longest path: it runs on a thread whose stack was filled with a pattern.
+//! How much stack the searches need on the file with the longest path: they run on a thread whose stack was filled with a pattern.
 
 use std::alloc::{alloc, dealloc, Layout};
 use std::ffi::c_void;
 
 use spp_tests::files::{self, Columns};
+use spp_tests::goal::Goal;
 use spp_tests::{engine, plain};
 
 const SIZE: usize = 64 << 20;
 const REPEATS: usize = 3;
+const LIMIT: u32 = 1_000_000;
 const PATTERN: u64 = 0xA5C3_96F0_1E2D_4B87;
 
 /// Room for the system's thread attributes; 56 bytes on x86-64 Linux.
@@ -28,20 +30,26 @@ extern "C" fn nothing(_: *mut c_void) -> *mut c_void {
     std::ptr::null_mut()
 }
 
-extern "C" fn search_by_engine(file: *mut c_void) -> *mut c_void {
-    let mut plan = [0; 64];
-    engine::search(unsafe { &*(file as *const Vec<u8>) }, 1_000_000, &mut plan);
+/// What a thread searches.
+struct Task {
+    goal: Goal,
+    file: Vec<u8>,
+}
+
+extern "C" fn search_by_engine(task: *mut c_void) -> *mut c_void {
+    let (task, mut plan) = (unsafe { &*(task as *const Task) }, [0; 64]);
+    engine::search(task.goal, &task.file, LIMIT, &mut plan);
     std::ptr::null_mut()
 }
 
-extern "C" fn search_by_plain(file: *mut c_void) -> *mut c_void {
-    let mut plan = [0; 64];
-    plain::search(unsafe { &*(file as *const Vec<u8>) }, 1_000_000, &mut plan);
+extern "C" fn search_by_plain(task: *mut c_void) -> *mut c_void {
+    let (task, mut plan) = (unsafe { &*(task as *const Task) }, [0; 64]);
+    plain::search(task.goal, &task.file, LIMIT, &mut plan);
     std::ptr::null_mut()
 }
 
 /// Bytes of stack that were written to by a thread with this start.
-fn used(start: Start, file: &Vec<u8>) -> usize {
+fn used(start: Start, task: &Task) -> usize {
     let layout = Layout::from_size_align(SIZE, 4096).expect("a layout in range");
     unsafe {
         let stack = alloc(layout) as *mut u64;
@@ -51,7 +59,7 @@ fn used(start: Start, file: &Vec<u8>) -> usize {
         let (mut attributes, mut thread) = (Attributes([0; 16]), 0);
         let mut failed = pthread_attr_init(&mut attributes);
         failed |= pthread_attr_setstack(&mut attributes, stack as *mut c_void, SIZE);
-        failed |= pthread_create(&mut thread, &attributes, start, file as *const Vec<u8> as *mut c_void);
+        failed |= pthread_create(&mut thread, &attributes, start, task as *const Task as *mut c_void);
         assert!(failed == 0, "no thread on a stack of its own");
         pthread_join(thread, std::ptr::null_mut());
         pthread_attr_destroy(&mut attributes);
@@ -62,20 +70,20 @@ fn used(start: Start, file: &Vec<u8>) -> usize {
 }
 
 /// The most stack of some runs beyond what an idle thread uses, and how far the runs differ.
-fn most_used(start: Start, file: &Vec<u8>) -> (usize, usize) {
-    let runs = [0; REPEATS].map(|_| used(start, file) - used(nothing, file));
+fn most_used(start: Start, task: &Task) -> (usize, usize) {
+    let runs = [0; REPEATS].map(|_| used(start, task) - used(nothing, task));
     let (least, most) = (runs.into_iter().min().unwrap_or(0), runs.into_iter().max().unwrap_or(0));
     (most, most - least)
 }
 
 /// Prints a line; gives how far its runs differ.
-fn line(name: &str, columns: &Columns) -> usize {
-    let file = columns.file();
-    let depth = plain::tree(&file, 1_000_000).expect("the file is accepted").deepest;
-    let (engine, differ) = most_used(search_by_engine, &file);
-    let (base, base_differ) = most_used(search_by_plain, &file);
+fn line(goal: Goal, name: &str, columns: &Columns) -> usize {
+    let task = Task { goal, file: columns.file() };
+    let depth = plain::tree(goal, &task.file, LIMIT).expect("the file is accepted").deepest;
+    let (engine, differ) = most_used(search_by_engine, &task);
+    let (base, base_differ) = most_used(search_by_plain, &task);
     let kib = |bytes: usize| bytes as f64 / 1024.0;
-    println!("| {name} | {depth} | {:.0} | {:.0} | {:.0} |", kib(engine), engine as f64 / depth as f64, kib(base));
+    println!("| {name} | {goal} | {depth} | {:.0} | {:.0} | {:.0} |", kib(engine), engine as f64 / depth as f64, kib(base));
     differ.max(base_differ)
 }
 
@@ -83,13 +91,14 @@ pub fn table() {
     eprintln!("bench: stack on the longest path");
     println!("## Stack on the longest path\n");
     println!("The most stack written to by one search, less what a thread uses that does nothing.\n");
-    println!("| file | nodes on the longest path | engine, KiB | engine, bytes for each node on the path | (a), KiB |");
-    println!("|---|---|---|---|---|");
-    let differ = [
-        line("one duty", &files::columns(1, &[(&[1], 5)])),
-        line("example 4", &files::example_4()),
-        line("17 sailings, 256 duties of all sailings but one", &files::deepest()),
+    println!("| file | goal | nodes on the longest path | engine, KiB | engine, bytes for each node on the path | (a), KiB |");
+    println!("|---|---|---|---|---|---|");
+    let files = [
+        ("one duty", files::columns(1, &[(&[1], 5)])),
+        ("example 4", files::example_4()),
+        ("17 sailings, 256 duties of all sailings but one", files::deepest()),
     ];
-    let most = differ.into_iter().max().unwrap_or(0);
+    let both = |(name, columns): &(&str, Columns)| Goal::BOTH.map(|goal| line(goal, name, columns));
+    let most = files.iter().flat_map(both).max().unwrap_or(0);
     println!("\nThe largest of {REPEATS} runs of each; the runs of one search differ by {most} bytes at most.\n");
 }
