@@ -1,6 +1,6 @@
 // Forcing (01, Forcing): what a row asks by its free columns, what the open rows ask together, and the columns taken until
 // nothing is forced.
-use goals::take_for;
+use goals::join;
 use node::Node;
 use node::row_count;
 use node::row_part;
@@ -134,7 +134,8 @@ pub fn force(goal: Goal, mut s: Node, matrix: &[u16]) -> Forced
                 };
             }
             Asked::Take(j) => {
-                s = take_for(goal, s, j, matrix);
+                let bound = join(goal, s.bound, s.cost[j]);
+                s = s.take(j, bound, matrix);
             }
         }
     }

@@ -8,13 +8,12 @@ use rules::Goal;
 ghost use mathlib.Core.Path.{_≡_};
 ghost use mathlib.Core.Bool.{cond};
 ghost use Prim.Native.Nat.{_+_, _-_, _<_, max, min};
-ghost use Rattle.node.specs.Node.{take};
 ghost use Rattle.node.specs.View.{nodeOf};
 ghost use Rattle.node.specs.Stored.{matrixIn, Kept, Columns};
 ghost use Rattle.rules.specs.Longest.{raised};
 ghost use Rattle.rules.specs.Goals.{searchFor};
 ghost use Rattle.rules.proofs.Goals.{WorkableFor};
-ghost use Rattle.goals.specs.Taking.{joinOf, Takes};
+ghost use Rattle.goals.specs.Taking.{joinOf};
 ghost use Rattle.goals.specs.Raising.{leastIn, lessBound};
 
 // The larger of two numbers.
@@ -28,7 +27,7 @@ fn larger(a: u32, b: u32) -> u32
 }
 
 // The bound with a column of a cost taken: for the sum the cost joins it, for the longest duty the larger of both counts.
-fn join(goal: Goal, bound: u32, cost: u32) -> u32
+pub fn join(goal: Goal, bound: u32, cost: u32) -> u32
     requires { ⌜ bound + cost < 4294967296 ⌝ }
     ensures { λ r. ⌜ r ≡ joinOf goal bound cost ⌝ }
 {
@@ -36,15 +35,6 @@ fn join(goal: Goal, bound: u32, cost: u32) -> u32
         Goal::Sum => bound + cost,
         Goal::Longest => larger(bound, cost),
     }
-}
-
-// A free column taken.
-pub fn take_for(goal: Goal, s: Node, j: usize, matrix: &[u16]) -> Node
-    requires { ⌜ Takes goal (now matrix) s j ⌝ }
-    ensures { λ r. ⌜ r ≡ take (matrixIn (now (matrix .entry))) s j (searchFor goal (matrixIn (now (matrix .entry))) .join s j) ⌝ }
-{
-    let bound = join(goal, s.bound, s.cost[j]);
-    s.take(j, bound, matrix)
 }
 
 // The least cost with one more, if there was one before.

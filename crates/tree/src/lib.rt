@@ -2,8 +2,8 @@
 use choice::branch_row;
 use choice::without_bound;
 use columns::branch_column;
+use goals::join;
 use goals::present;
-use goals::take_for;
 use node::Node;
 use rules::Goal;
 use visit::Settled;
@@ -116,7 +116,8 @@ fn branch(goal: Goal, s: Node, mut t: Tally, matrix: &[u16]) -> Tally
 {
     let chosen = choose_for(goal, &s.cost, &s.column, &s.row, s.bound, matrix);
     let j = chosen.column;
-    let mut child = take_for(goal, s, j, matrix);
+    let bound = join(goal, s.bound, s.cost[j]);
+    let mut child = s.take(j, bound, matrix);
     let u = node(goal, child, t, matrix);
     if u.stopped {
         return u;

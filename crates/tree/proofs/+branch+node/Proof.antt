@@ -1,14 +1,18 @@
 -- `node` and `branch` call each other. Each node that is entered below a branch has a column less that is free, so twice their number, and
 -- one more for a node, falls with each call. What each gives is the walk within the limit, at any fuel above the free columns.
-use mathlib.Core.Path.{_∙_}
+use mathlib.Core.Path.{_≡_, _∙_}
 use Prim.Native.Nat.{ℕ, _+_, _*_, _<_}
 use native.Mathlib.Omega.{arith}
 use borrow.Author.Needs.{needs}
 use borrow.Fn.Kinds.{In}
 use borrow.Fn.PlainCycle.{Measures, is, falls, and}
 use borrow.Author.Tests.{not-true, not-false}
+use Rattle.node.specs.Node.{take}
 use Rattle.node.specs.Stored.{matrixIn}
+use Rattle.rules.specs.Goals.{searchFor}
 use Rattle.rules.proofs.Rows.{size}
+use Rattle.goals.specs.Taking.{Takes}
+use Rattle.goals.proofs.Taking.{takes-room, takes-column, takes-low, takes-is}
 use Rattle.tree.proofs.Walking.{entered-sum, halted-sum, offered-sum, node-halts, node-ends, node-offers, node-reached, node-branches}
 use Rattle.tree.proofs.Walking.{comes, can-branch, column-low, can-take, first-falls, first-walks, branch-stops}
 use Rattle.tree.proofs.Walking.{branch-reached, branch-goes, second-falls, second-walks}
@@ -20,7 +24,8 @@ use Rattle.tree.proofs.node.Kinds as node-kinds
 use Rattle.tree.proofs.+branch+node.Lts-node as node-lts
 use Rattle.tree.proofs.choose_for.Reads as choose-reads
 use Rattle.node.proofs.Node.leave.Reads as leave-reads
-use Rattle.goals.proofs.take_for.Reads as take-reads
+use Rattle.goals.proofs.join.Reads as join-reads
+use Rattle.node.proofs.Node.take.Reads as take-reads
 use Rattle.visit.proofs.enter.Reads as enter-reads
 use Rattle.visit.proofs.halt.Reads as halt-reads
 use Rattle.visit.proofs.is_reached.Reads as is-reached-reads
@@ -52,6 +57,8 @@ abbrev branch-claims : ℕ → branch-lts.Claims
 branch-claims t = (
   choose-reads.Asked,
   choose-reads.Learnt,
+  join-reads.Asked,
+  join-reads.Learnt,
   take-reads.Asked,
   take-reads.Learnt,
   node-below t,
@@ -81,23 +88,46 @@ node-claims t = (
 branch-choose-requires : (t : ℕ) → branch-lts.Need-choose-for-requires (branch-claims t) (branch-at t) branch.Post
 branch-choose-requires t c κs = record { wide = search needs; node = c .before .before .before .before .before .pre .1 .node }
 
-branch-take-requires : (t : ℕ) → branch-lts.Need-take-for-requires (branch-claims t) (branch-at t) branch.Post
-branch-take-requires t c κs = can-take _ _ _ _ (c .before .before .before .before .before .before .pre .1) _ (c .choose-for .ensures)
+-- the column chosen can be taken, and with the bound that is worked out it is taken as the search for the goal does
+can : (t : ℕ) (c : branch-lts.After-choose-for (branch-claims t) (branch-at t) branch.Post) →
+    let a = c .before .before .before .before .before .before .args in
+    Takes (a .goal) (a .matrix .now) (a .t2) (c .choose-for .result .column)
+can t c = can-take _ _ _ _ (c .before .before .before .before .before .before .pre .1) _ (c .choose-for .ensures)
+
+with : (t : ℕ) (c : branch-lts.After-take (branch-claims t) (branch-at t) branch.Post) →
+    let d = c .before .before .before in
+    let a = d .before .before .before .before .before .before .args in
+    let p = matrixIn (a .matrix .now) in
+    let j = d .choose-for .result .column in
+    c .take .result ≡ take p (a .t2) j (searchFor (a .goal) p .join (a .t2) j)
+with t c = takes-is _ _ _ _ (can t (c .before .before .before)) _ (c .before .join .ensures) _ (c .take .ensures)
+
+branch-mul-join : (t : ℕ) → branch-lts.Need-mul-join (branch-claims t) (branch-at t) branch.Post
+branch-mul-join t c = omega (arith, takes-low _ _ _ _ (can t c))
+
+branch-element-copy-out-join : (t : ℕ) → branch-lts.Need-element-copy-out-join (branch-claims t) (branch-at t) branch.Post
+branch-element-copy-out-join t c = takes-low _ _ _ _ (can t c)
+
+branch-join-requires : (t : ℕ) → branch-lts.Need-join-requires (branch-claims t) (branch-at t) branch.Post
+branch-join-requires t c κs = takes-room _ _ _ _ (can t (c .before))
+
+branch-take-requires : (t : ℕ) → branch-lts.Need-take-requires (branch-claims t) (branch-at t) branch.Post
+branch-take-requires t c κs = takes-column _ _ _ _ (can t (c .before .before))
 
 branch-node-requires : (t : ℕ) → branch-lts.Need-node-requires (branch-claims t) (branch-at t) branch.Post
 branch-node-requires t c κs =
-    let d = c .before in
+    let d = c .before .before .before in
     let w = d .before .before .before .before .before .before .pre in
-    let l = first-falls _ _ _ _ (w .1) _ (d .choose-for .ensures) _ (c .take-for .ensures) in
-    (omega (arith, l, w .0), first-walks _ _ _ _ (w .1) _ (d .choose-for .ensures) _ (c .take-for .ensures))
+    let l = first-falls _ _ _ _ (w .1) _ (d .choose-for .ensures) _ (with t c) in
+    (omega (arith, l, w .0), first-walks _ _ _ _ (w .1) _ (d .choose-for .ensures) _ (with t c))
 
 branch-returns : (t : ℕ) → branch-lts.Need-returns (branch-claims t) (branch-at t) branch.Post
 branch-returns t c =
     let u = c .before in
     let k = u .before in
-    let d = k .before in
+    let d = k .before .before .before in
     let w = d .before .before .before .before .before .before .pre .1 in (
-      branch-stops _ _ _ _ w _ (d .choose-for .ensures) _ (k .take-for .ensures) (u .node .result) (u .node .ensures .0) (c .if1 .taken),
+      branch-stops _ _ _ _ w _ (d .choose-for .ensures) _ (with t k) (u .node .result) (u .node .ensures .0) (c .if1 .taken),
       u .node .ensures .1,
     )
 
@@ -109,22 +139,22 @@ branch-returns-2 t c =
     let f = c .before .before in
     let u = f .before in
     let k = u .before in
-    let d = k .before in
+    let d = k .before .before .before in
     let w = d .before .before .before .before .before .before .pre .1 in (
-      branch-reached _ _ _ _ w _ (d .choose-for .ensures) _ (k .take-for .ensures) (u .node .result) (u .node .ensures .0) (f .if1 .left) _ (c .before .is-reached .ensures)
+      branch-reached _ _ _ _ w _ (d .choose-for .ensures) _ (with t k) (u .node .result) (u .node .ensures .0) (f .if1 .left) _ (c .before .is-reached .ensures)
           (c .if2 .taken),
       u .node .ensures .1,
     )
 
 branch-leave-requires : (t : ℕ) → branch-lts.Need-leave-requires (branch-claims t) (branch-at t) branch.Post
 branch-leave-requires t c κs =
-    let d = c .before .before .before .before .before in
+    let d = c .before .before .before .before .before .before .before in
     column-low _ _ _ _ (d .before .before .before .before .before .before .pre .1) _ (d .choose-for .ensures)
 
 branch-node-requires-2 : (t : ℕ) → branch-lts.Need-node-requires-2 (branch-claims t) (branch-at t) branch.Post
 branch-node-requires-2 t c κs =
     let u = c .before .before .before .before in
-    let d = u .before .before in
+    let d = u .before .before .before .before in
     let w = d .before .before .before .before .before .before .pre in
     let l = second-falls _ _ _ _ (w .1) _ (d .choose-for .ensures) _ (c .leave .ensures) in
     (omega (arith, l, w .0), second-walks _ _ _ _ (w .1) _ (d .choose-for .ensures) _ (c .leave .ensures) _ (u .node .ensures .1))
@@ -135,9 +165,9 @@ branch-returns-3 t c =
     let f = g .before .before in
     let u = f .before in
     let k = u .before in
-    let d = k .before in
+    let d = k .before .before .before in
     let w = d .before .before .before .before .before .before .pre .1 in (
-      branch-goes _ _ _ _ w _ (d .choose-for .ensures) _ (k .take-for .ensures) (u .node .result) (u .node .ensures .0) (f .if1 .left) _ (g .before .is-reached .ensures)
+      branch-goes _ _ _ _ w _ (d .choose-for .ensures) _ (with t k) (u .node .result) (u .node .ensures .0) (f .if1 .left) _ (g .before .is-reached .ensures)
           (g .if2 .left) _ (c .before .leave .ensures) (c .node2 .result) (c .node2 .ensures .0),
       c .node2 .ensures .1 ∙ u .node .ensures .1,
     )
@@ -238,6 +268,9 @@ pub +branch+node-spec : {M : Type 1} → statement M
     (branch-at t)
     branch.Post
     (branch-choose-requires t)
+    (branch-mul-join t)
+    (branch-element-copy-out-join t)
+    (branch-join-requires t)
     (branch-take-requires t)
     (branch-node-requires t)
     (branch-returns t)
