@@ -1,7 +1,5 @@
-// What differs by the goal of a search: the bound as a column is taken (`join`), what reducing does (`lower_for`) and, for the longest
-// duty, a column's present cost (`present`). All else serves both goals.
-use lowering::reduce_node;
-use node::Node;
+// What differs by the goal of a search: the bound as a column is taken; and for the longest duty the bound raised, where the sum reduces,
+// and the present costs.
 use node::row_count;
 use node::row_part;
 use rules::Goal;
@@ -11,8 +9,6 @@ ghost use Prim.Native.Nat.{_+_, _-_, _<_, max, min};
 ghost use Rattle.node.specs.View.{nodeOf};
 ghost use Rattle.node.specs.Stored.{matrixIn, Kept, Columns};
 ghost use Rattle.rules.specs.Longest.{raised};
-ghost use Rattle.rules.specs.Goals.{searchFor};
-ghost use Rattle.rules.proofs.Goals.{WorkableFor};
 ghost use Rattle.goals.specs.Taking.{joinOf};
 ghost use Rattle.goals.specs.Raising.{leastIn, lessBound};
 
@@ -73,7 +69,7 @@ fn raise_by(cost: &[u32; 256], column: &[u8; 256], columns: &[u16], bound: u32) 
 }
 
 // The larger of a bound and the largest, over the open rows, of the least cost of a free column, in one pass over the rows.
-fn raise<'a>(
+pub fn raise<'a>(
     cost: &'a [u32; 256],
     column: &'a [u8; 256],
     row: &'a [u8; 64],
@@ -95,30 +91,6 @@ fn raise<'a>(
         }
     }
     best
-}
-
-// The node with its bound raised.
-fn raise_node(mut s: Node, matrix: &[u16]) -> Node
-    requires { ⌜ Kept (now matrix) ⌝ }
-    ensures { λ r. ⌜ r ≡ raised (matrixIn (now (matrix .entry))) s ⌝ }
-{
-    let bound = raise(&s.cost, &s.column, &s.row, s.bound, matrix);
-    s.bound = bound;
-    s
-}
-
-// The node reduced: for the sum by 01's reducing, for the longest duty by raising its bound.
-pub fn lower_for(goal: Goal, s: Node, matrix: &[u16]) -> Node
-    requires { ⌜ WorkableFor goal (now matrix) s ⌝ }
-    ensures { λ r. ⌜ r ≡ searchFor goal (matrixIn (now (matrix .entry))) .lowered s ⌝ }
-{
-    match goal {
-        Goal::Sum => {
-            let done = reduce_node(s, matrix);
-            done.node
-        }
-        Goal::Longest => raise_node(s, matrix),
-    }
 }
 
 // A cost less a bound, or 0 where that is negative.

@@ -143,13 +143,19 @@ module _ (p : Matrix) (F : FitsNode p) (o : Variant) (Ok : (ℕ → Bool) → Ty
       (suc (width p)) s k g (size-fits p s)
 
 -- for the search: the tally of the walk within the limit gives the answer
-pub limited-answer : (o : Variant) (p : Matrix) (s : Node) (limit : ℕ)
-    → answerFrom (limited (visit o p) (suc (width p)) s (fresh limit)) (rootBound o p (live s)) ≡ answer o p (live s) limit
-unfolding answer fullTree
-limited-answer o p s limit = answer-limited (visit o p) (suc (width p)) s (rootBound o p (live s)) limit
+pub limited-answer : (o : Variant) (p : Matrix) (s : Node) (b limit : ℕ)
+    → answerFrom (limited (visit o p) (suc (width p)) s (fresh limit)) b ≡ answerOf (fullTree o p (live s)) b limit
+unfolding fullTree
+limited-answer o p s b limit = answer-limited (visit o p) (suc (width p)) s b limit
 
 -- a dead start: no plan, and one node
 pub dead-answer : (o : Variant) (p : Matrix) (start : Forced) → start .alive ≡ false → (limit : ℕ) → 1 ≤ limit
     → answer o p start limit ≡ none 1
 unfolding answer fullTree answerOf finished
 dead-answer o p start e limit l = rw (e, le-ltb limit 1 l)
+
+-- a first node that forcing finds dead: the same, whatever bound it has
+pub dead-settled : (o : Variant) (p : Matrix) (s : Node) → o .settle s .alive ≡ false → (b limit : ℕ) → 1 ≤ limit
+    → answerOf (fullTree o p (live s)) b limit ≡ none 1
+unfolding fullTree walk visit enter answerOf finished
+dead-settled o p s e b limit l = rw (e, le-ltb limit 1 l)

@@ -1,9 +1,8 @@
 -- Both goals as one: the steps of a search, what they ask of a node and keep, and demand 3.
-use mathlib.Core.Path.{_≡_, refl, ap}
+use mathlib.Core.Path.{_≡_, refl}
 use mathlib.Core.List.{List, [], _∷_}
-use Prim.Native.Nat.{ℕ, _≤_, _<_, max}
+use Prim.Native.Nat.{ℕ, _≤_, _<_}
 use native.Mathlib.Omega.{arith}
-use lib.Dec.{ltb}
 use Rattle.node.specs.declared.Node.{Node}
 use Rattle.node.specs.Lists.{keep, on, least}
 use Rattle.node.specs.Matrix.{Matrix, width, IsPlan}
@@ -12,19 +11,18 @@ use Rattle.node.specs.Stored.{matrixIn, Kept, FitsNode}
 use Rattle.rules.specs.declared.Goal.{Goal}
 use Rattle.rules.specs.declared.Goal.the-variants.{Sum, Longest}
 use Rattle.rules.specs.Force.{force}
-use Rattle.rules.specs.Reduce.{leastOf, candidates}
+use Rattle.rules.specs.Reduce.{leastOf}
 use Rattle.rules.specs.Tree.{live, answer}
 use Rattle.rules.specs.Demand.{Demand3}
-use Rattle.rules.specs.Longest.{largest, topped, raised, longest}
+use Rattle.rules.specs.Longest.{topped, raised, longest}
 use Rattle.rules.specs.Goals.{searchFor, valueFor}
 use Rattle.node.proofs.Members.{least-at}
 use Rattle.rules.proofs.Sums.{total-one}
-use Rattle.rules.proofs.Plans.{Free, Sound, root-sound, root-free, sound-same}
+use Rattle.rules.proofs.Plans.{Free, Sound, root-free, sound-same}
 use Rattle.rules.proofs.Steps.{take-sound, leave-sound, leave-rest}
 use Rattle.rules.proofs.Rows.{free-in}
 use Rattle.rules.proofs.Variants.{Stepping}
 use Rattle.rules.proofs.Costs.{Fair, costLimit, Workable, take-fair, leave-fair, lower-fair}
-use Rattle.rules.proofs.Reducing.{reduced-none}
 use Rattle.rules.proofs.Sum.{sum-steps, sum-demand-3}
 use Rattle.rules.proofs.Floors.{largest-le}
 use Rattle.rules.proofs.Longest.{raised-parts, longest-steps, longest-demand-3}
@@ -120,12 +118,6 @@ goal-root Longest l cs w =
         low = omega (arith, w .fair .within);
       };
     }
-
--- a node without open rows is left as it is
-pub lowered-none : (g : Goal) (p : Matrix) → FitsNode p → (s : Node) → openRows p s ≡ [] → searchFor g p .lowered s .bound ≡ s .bound
-unfolding searchFor candidates keep raised largest
-lowered-none Sum p F s e = rw (reduced-none p F s (ap (keep (λ i. ltb 0 (leastOf p s i))) e))
-lowered-none Longest p F s e = rw e (omega arith)
 
 pub goal-demand-3 : (g : Goal) (p : Matrix) → FitsNode p → (cs : List ℕ) (limit : ℕ)
     → Demand3 p (searchFor g p) (live (root p cs)) (IsPlan p) (valueFor g p cs) limit (answer (searchFor g p) p (live (root p cs)) limit)

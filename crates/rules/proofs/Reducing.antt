@@ -235,13 +235,9 @@ module _ (p : Matrix) (F : FitsNode p) (G : Node → Type 0) (lowers : Lowers p 
   unfolding reduce
   reduce-used s = omega (arith, used-by (suc (p .rows)) s [], pending-fits p s)
 
--- what does not depend on what lowering keeps: no more rows are used than there are, and with no candidate reducing leaves the node
+-- no more rows are used than there are, whatever lowering keeps
 pub used-few : (p : Matrix) → FitsNode p → (s : Node) → length (reduce p s .used) ≤ p .rows
 used-few p F s = reduce-used p F (λ t. Unit {0}) (λ t i a g o j f fits. tt) s
-
-pub reduced-none : (p : Matrix) → FitsNode p → (s : Node) → candidates p s ≡ [] → reduce p s .node ≡ s
-unfolding reduce
-reduced-none p F s e = rw (reduce-none p F (λ t. Unit {0}) (λ t i a g o j f fits. tt) s [] e)
 
 pub fair-lowers : (p : Matrix) → FitsNode p → (top : ℕ) → Lowers p (Fair p top)
 fair-lowers p F top s i a g o j f fits = lower-fair p F s i a g j f fits

@@ -1,7 +1,7 @@
 -- Worked cases of the longest duty as the goal (02, P1): the paper's example 7, which has the matrix and the costs of example 1, and small
 -- instances that one rule decides.
 use mathlib.Core.Path.{_≡_, refl}
-use mathlib.Core.List.{List, [], _∷_}
+use mathlib.Core.List.{[], _∷_}
 use Prim.Native.Nat.{ℕ}
 use Rattle.node.specs.Lists.{keep, from, member, leastFrom, least, pick, isEmpty, first}
 use Rattle.node.specs.Matrix.{Matrix, covers, meets, Instance}

@@ -70,7 +70,9 @@ module _ (g : Goal) (s : List ℕ) (limit places : ℕ) where
     module _ (fits : callFault found places limit ≡ fine) (first : Node) (is : first ≡ root (matrixIn l) costs) where
       pub searchable : Searchable g l first limit
       unfolding callFault
-      searchable = record { some = rw is (goal-root g l costs (k .workable)); limited = ask-within 1 1000000 limit 11 (both _ _ fits .1) .most }
+      searchable =
+          let h = ask-within 1 1000000 limit 11 (both _ _ fits .1) in
+          record { some = rw is (goal-root g l costs (k .workable)); one = h .least; limited = h .most }
 
       module _ (done : Solved) (ends : solvedAnswer (width (matrixIn l)) done ≡ answer (searchFor g (matrixIn l)) (matrixIn l) (live first) limit) where
         answers : solvedAnswer (found .columns) done ≡ answerFor g s limit

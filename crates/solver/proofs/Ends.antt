@@ -1,16 +1,39 @@
 -- The walk from the first node, with no node entered before, and its answer: that of the rules.
-use mathlib.Core.Path.{_≡_, ap, _∙_}
+use mathlib.Core.Path.{_≡_, refl, ap, sym, _∙_}
+use mathlib.Core.Bool.{Bool, true, false, cond}
+use mathlib.Core.List.{List, [], _∷_}
 use Prim.Native.Nat.{ℕ, suc, _+_, _≤_, _<_}
 use native.Mathlib.Omega.{arith}
 use Rattle.node.specs.declared.Node.{Node}
+use Rattle.node.specs.Lists.{isEmpty}
 use Rattle.node.specs.Matrix.{Matrix, width}
+use Rattle.node.specs.Node.{openRows}
+use Rattle.rules.specs.declared.Forced.{Forced}
+use Rattle.rules.specs.Search.{answerOf}
 use Rattle.rules.specs.Limited as rules
-use Rattle.rules.specs.Tree.{Variant, live, visit, rootBound, answer}
+use Rattle.rules.specs.Tree.{Variant, live, visit, fullTree, rootBound, answer}
 use Rattle.rules.proofs.Rows.{size, size-fits}
-use Rattle.rules.proofs.Demand.{limited-answer}
+use Rattle.rules.proofs.Demand.{limited-answer, dead-settled}
 use Rattle.visit.specs.declared.Tally.{Tally}
+use Rattle.visit.specs.declared.Settled.{Settled}
 use Rattle.visit.specs.Tally.{shown}
+use Rattle.visit.specs.Settled.{settledBy, settled}
 use Rattle.solver.specs.Solved.{solvedAnswer}
+
+-- where the node is alive its bound is the root's, and else the answer has none
+settled-answer : (o : Variant) (p : Matrix) (s : Node) (x : Settled) → x ≡ settled o p s → (limit : ℕ) → 1 ≤ limit →
+    answerOf (fullTree o p (live s)) (x .node .bound) limit ≡ answer o p (live s) limit
+unfolding answer rootBound settled settledBy isEmpty
+settled-answer o p s x told limit h = rw told (go (t .alive) refl (openRows p (t .node)))
+  where
+    t : Forced
+    t = o .settle s
+
+    go : (b : Bool) → t .alive ≡ b → (is : List ℕ) → answerOf (fullTree o p (live s)) (settledBy o b (t .node) is .node .bound) limit
+        ≡ answerOf (fullTree o p (live s)) (cond (isEmpty is) (t .node .bound) (o .lowered (t .node) .bound)) limit
+    go false e is = dead-settled o p s e _ limit h ∙ sym (dead-settled o p s e _ limit h)
+    go true e [] = refl
+    go true e (i ∷ is) = refl
 
 module _ (fresh : Tally) (limit : ℕ) (e : (w : ℕ) → shown w fresh ≡ rules.fresh limit) where
   pub fresh-count : limit ≤ 1000000 → fresh .nodes + fresh .left ≤ 1000000
@@ -19,10 +42,11 @@ module _ (fresh : Tally) (limit : ℕ) (e : (w : ℕ) → shown w fresh ≡ rule
       let l : fresh .left ≡ limit = ap (λ (t : rules.Tally). t .left) (e 0) in
       omega arith
 
-  pub ends : (o : Variant) (p : Matrix) (s : Node) (last : Tally) (bound : ℕ) →
+  -- the first node's bound: that of the node settled, which does not count where it is dead
+  pub ends : 1 ≤ limit → (o : Variant) (p : Matrix) (s : Node) (x : Settled) → x ≡ settled o p s → (last : Tally) →
       ((f : ℕ) → size p s < f → shown (width p) last ≡ rules.limited (visit o p) f s (shown (width p) fresh)) →
-      bound ≡ rootBound o p (live s) → solvedAnswer (width p) (record { tally = last; bound = bound }) ≡ answer o p (live s) limit
-  ends o p s last bound w b =
+      solvedAnswer (width p) (record { tally = last; bound = x .node .bound }) ≡ answer o p (live s) limit
+  ends h o p s x told last w =
       let q : shown (width p) last ≡ rules.limited (visit o p) (suc (width p)) s (rules.fresh limit) =
       w (suc (width p)) (size-fits p s) ∙ rw (e (width p)) in
-      rw (q, b) (limited-answer o p s limit)
+      rw (q, limited-answer o p s (x .node .bound) limit) (settled-answer o p s x told limit h)

@@ -9,9 +9,10 @@ use Rattle.rules.proofs.Goals.{WorkableFor}
 use Rattle.visit.specs.Tally.{shown}
 use Rattle.solver.specs.declared.Solved.{Solved}
 
--- a workable first node, and a node limit that is not too large
+-- a workable first node, and a node limit in range
 pub record Searchable (g : Goal) (l : List ℕ) (s : Node) (limit : ℕ) : Type 0 where
   pub some : WorkableFor g l s
+  pub one : 1 ≤ limit
   pub limited : limit ≤ 1000000
 
 -- the answer that a tally and a bound give, of a matrix with w columns

@@ -3,7 +3,7 @@ use node::Node;
 use rules::Goal;
 use visit::Tally;
 use visit::fresh_tally;
-use visit::settled_bound;
+use visit::settle;
 ghost use mathlib.Core.Path.{_≡_};
 ghost use Rattle.node.specs.Matrix.{Matrix, width};
 ghost use Rattle.node.specs.Stored.{matrixIn};
@@ -23,11 +23,12 @@ pub fn search_from(goal: Goal, first: Node, matrix: &[u16], limit: u32) -> Solve
     requires { ⌜ Searchable goal (now matrix) first limit ⌝ }
     ensures { λ r. ⌜ (let p : Matrix = matrixIn (now (matrix .entry)) in solvedAnswer (width p) r ≡ answer (searchFor goal p) p (live first) limit) ⌝ }
 {
-    let bound = settled_bound(goal, first, matrix);
+    let settled = settle(goal, first, matrix);
+    let root = settled.node;
     let fresh = fresh_tally(limit);
     let tally = tree::node(goal, first, fresh, matrix);
     Solved {
         tally: tally,
-        bound: bound,
+        bound: root.bound,
     }
 }

@@ -1,6 +1,6 @@
 -- A node that branches has an open row, and the row chosen has a free column at cost 0. So there is a column to choose, and the branches
 -- are those that take and leave it. A penalty is the present cost of a free column, so it can be added to the bound.
-use mathlib.Core.Path.{_≡_, refl, ap, sym, _∙_}
+use mathlib.Core.Path.{_≡_, refl, ap, _∙_}
 use mathlib.Core.Bool.{false≢true}
 use mathlib.Core.List.{List, [], _∷_}
 use Prim.Native.Nat.{ℕ, _+_, _<_}
@@ -9,7 +9,7 @@ use lib.Dec.{ltb}
 use Rattle.node.specs.declared.Node.{Node}
 use Rattle.node.specs.Lists.{member, pick}
 use Rattle.node.specs.Matrix.{Matrix}
-use Rattle.node.specs.Node.{costAt, freeOf, openRows, take, leave}
+use Rattle.node.specs.Node.{costAt, freeOf, take, leave}
 use Rattle.node.specs.View.{view}
 use Rattle.node.specs.Stored.{matrixIn, HasRow}
 use Rattle.node.proofs.Members.{kept, pick-member, least-at}
@@ -122,3 +122,8 @@ module _ (l : List ℕ) (s : Node) (w : Choosable l s) (best : BranchRow) (told 
       let column-is : found ≡ pick (columnBefore (sum p) p s) (z .j) (z .js) =
       at ∙ column-of p s (best .row) ∙ ap (bestColumn p s) row-is ∙ column-picked p s i (z .j) (z .js) (z .are) in
       rw (column-is, e ∙ ap (boundWithout (s .bound)) best-is ∙ without-is p s (s .bound) i, b .opened, z .are)
+
+  pub choice-low : (found : ℕ) → found ≡ bestColumn (matrixIn l) (view (s .cost) (s .column) []) (best .row) → found < 256
+  choice-low found at =
+      let e : found ≡ choiceOf (sum p) p s .column = ap (λ (x : Choice). x .column) (choice-made found at (boundWithout (s .bound) best) refl) in
+      omega (arith, e, chosen-free (sum p) p s b .col, w .kept .small .fits .wide)

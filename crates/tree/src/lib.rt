@@ -62,7 +62,7 @@ pub fn node(goal: Goal, s: Node, t: Tally, matrix: &[u16]) -> Tally
 // What a node branches on.
 struct Choice {
     // The column to take or leave.
-    column: usize,
+    column: u32,
     // The bound of the branch without it.
     bound: u32,
 }
@@ -82,7 +82,7 @@ fn choose<'a>(
     let i = best.row as usize;
     let found = branch_column(cost, column, matrix, i);
     Choice {
-        column: found,
+        column: found as u32,
         bound: without_bound(bound, best),
     }
 }
@@ -115,7 +115,7 @@ fn branch(goal: Goal, s: Node, mut t: Tally, matrix: &[u16]) -> Tally
     ensures sum { λ r. ⌜ r .nodes + r .left ≡ t .nodes + t .left ⌝ }
 {
     let chosen = choose_for(goal, &s.cost, &s.column, &s.row, s.bound, matrix);
-    let j = chosen.column;
+    let j = chosen.column as usize;
     let bound = join(goal, s.bound, s.cost[j]);
     let mut child = s.take(j, bound, matrix);
     let u = node(goal, child, t, matrix);

@@ -1,6 +1,6 @@
 -- Settling a node is forcing it and, where it is alive with open rows, reducing it. Forcing keeps a node workable, so that it can be reduced.
 use mathlib.Core.Path.{_≡_, refl, ap, sym, _∙_}
-use mathlib.Core.Bool.{Bool, true, false, cond, false≢true, true≢false}
+use mathlib.Core.Bool.{Bool, true, false, false≢true, true≢false}
 use mathlib.Core.List.{List, [], _∷_}
 use Prim.Native.Nat.{ℕ}
 use Rattle.node.specs.declared.Node.{Node}
@@ -8,12 +8,12 @@ use Rattle.node.specs.Lists.{isEmpty}
 use Rattle.node.specs.Matrix.{Matrix}
 use Rattle.node.specs.Node.{openRows}
 use Rattle.node.specs.View.{view}
-use Rattle.node.specs.Stored.{matrixIn, FitsNode}
+use Rattle.node.specs.Stored.{matrixIn}
 use Rattle.rules.specs.declared.Forced.{Forced}
 use Rattle.rules.specs.declared.Goal.{Goal}
-use Rattle.rules.specs.Tree.{Variant, live, rootBound}
+use Rattle.rules.specs.Tree.{Variant}
 use Rattle.rules.specs.Goals.{searchFor}
-use Rattle.rules.proofs.Goals.{WorkableFor, goal-steps, lowered-none}
+use Rattle.rules.proofs.Goals.{WorkableFor, goal-steps}
 use Rattle.visit.specs.declared.Settled.{Settled}
 use Rattle.visit.specs.Settled.{settledBy, settled}
 
@@ -67,41 +67,3 @@ module _ (g : Goal) (l : List ℕ) (s : Node) (w : WorkableFor g l s) where
       go false is = f
       go true [] = f
       go true (i ∷ is) = goal-steps g l (w .kept) .reducing (o .settle s .node) f .good
-
--- the root's bound, from the root settled
-module _ (g : Goal) (p : Matrix) (F : FitsNode p) (s : Node) where
-  v : Variant
-  v = searchFor g p
-
-  t : Forced
-  t = searchFor g p .settle s
-
-  -- by the open rows
-  bound : List ℕ → ℕ
-  bound is = cond (isEmpty is) (t .node .bound) (v .lowered (t .node) .bound)
-
-  -- reducing leaves a node without open rows
-  reduced-bound : (is : List ℕ) → openRows p (t .node) ≡ is → v .lowered (t .node) .bound ≡ bound is
-  unfolding bound isEmpty v
-  reduced-bound [] e = lowered-none g p F (t .node) e
-  reduced-bound (i ∷ is) e = refl
-
-  module _ (x : Settled) (told : x ≡ settled (searchFor g p) p s) where
-    pub bound-alive : x .alive ≡ true → x .node .bound ≡ rootBound (searchFor g p) p (live s)
-    unfolding settled rootBound settledBy bound isEmpty t v
-    bound-alive = rw told (go (t .alive) (openRows p (t .node)))
-      where
-        go : (b : Bool) (is : List ℕ) → settledBy v b (t .node) is .alive ≡ true → settledBy v b (t .node) is .node .bound ≡ bound is
-        go false is h = absurd (false≢true h)
-        go true [] h = refl
-        go true (i ∷ is) h = refl
-
-    pub bound-dead : x .alive ≡ false → (n : Node) → n ≡ searchFor g p .lowered (x .node) → n .bound ≡ rootBound (searchFor g p) p (live s)
-    unfolding settled rootBound settledBy bound t v
-    bound-dead h n d = rw (d, told) (go (t .alive) (openRows p (t .node)) refl (rw told at h))
-      where
-        go : (b : Bool) (is : List ℕ) → openRows p (t .node) ≡ is → settledBy v b (t .node) is .alive ≡ false →
-            v .lowered (settledBy v b (t .node) is .node) .bound ≡ bound is
-        go false is e h = reduced-bound is e
-        go true [] e h = absurd (true≢false h)
-        go true (i ∷ is) e h = absurd (true≢false h)

@@ -1,6 +1,7 @@
 // The tally of a walk, and what a node comes to when it is forced and reduced.
 use forcing::force;
-use goals::lower_for;
+use goals::raise;
+use lowering::reduce_node;
 use node::Node;
 use node::row_count;
 use rules::Goal;
@@ -14,7 +15,6 @@ ghost use Rattle.node.specs.Node.{openRows};
 ghost use Rattle.node.specs.View.{view};
 ghost use Rattle.node.specs.Stored.{matrixIn, Kept};
 ghost use Rattle.rules.specs.Limited.{fresh, entered, halted, offered};
-ghost use Rattle.rules.specs.Tree.{live, rootBound};
 ghost use Rattle.rules.specs.Goals.{searchFor};
 ghost use Rattle.rules.proofs.Goals.{WorkableFor};
 ghost use Rattle.visit.specs.Tally.{takenIn, shown};
@@ -127,13 +127,13 @@ pub struct Settled {
     pub full: bool,
 }
 
-// Forces a node, and reduces it where it is alive and has open rows.
+// Forces a node, and reduces it where it is alive and has open rows: for the sum as 01 does, for the longest duty by raising its bound.
 pub fn settle(goal: Goal, s: Node, matrix: &[u16]) -> Settled
     requires { ⌜ WorkableFor goal (now matrix) s ⌝ }
     ensures { λ r. ⌜ r ≡ settled (searchFor goal (matrixIn (now (matrix .entry)))) (matrixIn (now (matrix .entry))) s ⌝ }
 {
     let forced = force(goal, s, matrix);
-    let node = forced.node;
+    let mut node = forced.node;
     if !forced.alive {
         return Settled {
             node: node,
@@ -148,24 +148,24 @@ pub fn settle(goal: Goal, s: Node, matrix: &[u16]) -> Settled
             full: true,
         };
     }
-    let reduced = lower_for(goal, node, matrix);
-    Settled {
-        node: reduced,
-        alive: true,
-        full: false,
+    match goal {
+        Goal::Sum => {
+            let done = reduce_node(node, matrix);
+            let reduced = done.node;
+            Settled {
+                node: reduced,
+                alive: true,
+                full: false,
+            }
+        }
+        Goal::Longest => {
+            let bound = raise(&node.cost, &node.column, &node.row, node.bound, matrix);
+            node.bound = bound;
+            Settled {
+                node: node,
+                alive: true,
+                full: false,
+            }
+        }
     }
-}
-
-// The bound of a node after forcing and reducing, or after forcing if it is a plan (01, of the root: root floor).
-pub fn settled_bound(goal: Goal, s: Node, matrix: &[u16]) -> u32
-    requires { ⌜ WorkableFor goal (now matrix) s ⌝ }
-    ensures { λ r. ⌜ r ≡ rootBound (searchFor goal (matrixIn (now (matrix .entry)))) (matrixIn (now (matrix .entry))) (live s) ⌝ }
-{
-    let found = settle(goal, s, matrix);
-    let node = found.node;
-    if found.alive {
-        return node.bound;
-    }
-    let reduced = lower_for(goal, node, matrix);
-    reduced.bound
 }

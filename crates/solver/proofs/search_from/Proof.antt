@@ -4,21 +4,22 @@ use borrow.Author.Needs.{needs}
 use Rattle.solver.proofs.search_from.Statement.{statement}
 use Rattle.solver.proofs.search_from.Tie as tie
 
-settled-bound-requires : tie.Need-settled-bound-requires
-settled-bound-requires c κs = search needs
+settle-requires : tie.Need-settle-requires
+settle-requires c κs = search needs
 
 fresh-tally-requires : tie.Need-fresh-tally-requires
 fresh-tally-requires c κs = search needs
 
 node-requires : tie.Need-node-requires
 node-requires c κs =
-    let p = c .before .before .before .pre in
+    let p = c .before .before .before .before .pre in
     record { some = p .some; count = fresh-count (c .fresh-tally .result) _ (c .fresh-tally .ensures) (p .limited) }
 
 returns : tie.Need-returns
 returns c =
     let f = c .before in
-    ends (f .fresh-tally .result) _ (f .fresh-tally .ensures) _ _ _ (c .node .result) _ (c .node .ensures .0) (f .before .settled-bound .ensures)
+    let s = f .before .before in
+    ends (f .fresh-tally .result) _ (f .fresh-tally .ensures) (s .before .before .pre .one) _ _ _ _ (s .settle .ensures) (c .node .result) (c .node .ensures .0)
 
 pub search-from-spec : {M : Type 1} → statement M
-search-from-spec = tie.close (tie.spec settled-bound-requires fresh-tally-requires node-requires returns)
+search-from-spec = tie.close (tie.spec settle-requires fresh-tally-requires node-requires returns)

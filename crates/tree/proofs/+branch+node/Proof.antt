@@ -95,28 +95,31 @@ can : (t : ℕ) (c : branch-lts.After-choose-for (branch-claims t) (branch-at t)
 can t c = can-take _ _ _ _ (c .before .before .before .before .before .before .pre .1) _ (c .choose-for .ensures)
 
 with : (t : ℕ) (c : branch-lts.After-take (branch-claims t) (branch-at t) branch.Post) →
-    let d = c .before .before .before in
+    let d = c .before .before .before .before in
     let a = d .before .before .before .before .before .before .args in
     let p = matrixIn (a .matrix .now) in
     let j = d .choose-for .result .column in
     c .take .result ≡ take p (a .t2) j (searchFor (a .goal) p .join (a .t2) j)
-with t c = takes-is _ _ _ _ (can t (c .before .before .before)) _ (c .before .join .ensures) _ (c .take .ensures)
+with t c = takes-is _ _ _ _ (can t (c .before .before .before .before)) _ (c .before .join .ensures) _ (c .take .ensures)
+
+branch-cast-j : (t : ℕ) → branch-lts.Need-cast-j (branch-claims t) (branch-at t) branch.Post
+branch-cast-j t c = search needs
 
 branch-mul-join : (t : ℕ) → branch-lts.Need-mul-join (branch-claims t) (branch-at t) branch.Post
-branch-mul-join t c = omega (arith, takes-low _ _ _ _ (can t c))
+branch-mul-join t c = omega (arith, takes-low _ _ _ _ (can t (c .before)))
 
 branch-element-copy-out-join : (t : ℕ) → branch-lts.Need-element-copy-out-join (branch-claims t) (branch-at t) branch.Post
-branch-element-copy-out-join t c = takes-low _ _ _ _ (can t c)
+branch-element-copy-out-join t c = takes-low _ _ _ _ (can t (c .before))
 
 branch-join-requires : (t : ℕ) → branch-lts.Need-join-requires (branch-claims t) (branch-at t) branch.Post
-branch-join-requires t c κs = takes-room _ _ _ _ (can t (c .before))
+branch-join-requires t c κs = takes-room _ _ _ _ (can t (c .before .before))
 
 branch-take-requires : (t : ℕ) → branch-lts.Need-take-requires (branch-claims t) (branch-at t) branch.Post
-branch-take-requires t c κs = takes-column _ _ _ _ (can t (c .before .before))
+branch-take-requires t c κs = takes-column _ _ _ _ (can t (c .before .before .before))
 
 branch-node-requires : (t : ℕ) → branch-lts.Need-node-requires (branch-claims t) (branch-at t) branch.Post
 branch-node-requires t c κs =
-    let d = c .before .before .before in
+    let d = c .before .before .before .before in
     let w = d .before .before .before .before .before .before .pre in
     let l = first-falls _ _ _ _ (w .1) _ (d .choose-for .ensures) _ (with t c) in
     (omega (arith, l, w .0), first-walks _ _ _ _ (w .1) _ (d .choose-for .ensures) _ (with t c))
@@ -125,7 +128,7 @@ branch-returns : (t : ℕ) → branch-lts.Need-returns (branch-claims t) (branch
 branch-returns t c =
     let u = c .before in
     let k = u .before in
-    let d = k .before .before .before in
+    let d = k .before .before .before .before in
     let w = d .before .before .before .before .before .before .pre .1 in (
       branch-stops _ _ _ _ w _ (d .choose-for .ensures) _ (with t k) (u .node .result) (u .node .ensures .0) (c .if1 .taken),
       u .node .ensures .1,
@@ -139,7 +142,7 @@ branch-returns-2 t c =
     let f = c .before .before in
     let u = f .before in
     let k = u .before in
-    let d = k .before .before .before in
+    let d = k .before .before .before .before in
     let w = d .before .before .before .before .before .before .pre .1 in (
       branch-reached _ _ _ _ w _ (d .choose-for .ensures) _ (with t k) (u .node .result) (u .node .ensures .0) (f .if1 .left) _ (c .before .is-reached .ensures)
           (c .if2 .taken),
@@ -148,13 +151,13 @@ branch-returns-2 t c =
 
 branch-leave-requires : (t : ℕ) → branch-lts.Need-leave-requires (branch-claims t) (branch-at t) branch.Post
 branch-leave-requires t c κs =
-    let d = c .before .before .before .before .before .before .before in
+    let d = c .before .before .before .before .before .before .before .before in
     column-low _ _ _ _ (d .before .before .before .before .before .before .pre .1) _ (d .choose-for .ensures)
 
 branch-node-requires-2 : (t : ℕ) → branch-lts.Need-node-requires-2 (branch-claims t) (branch-at t) branch.Post
 branch-node-requires-2 t c κs =
     let u = c .before .before .before .before in
-    let d = u .before .before .before .before in
+    let d = u .before .before .before .before .before in
     let w = d .before .before .before .before .before .before .pre in
     let l = second-falls _ _ _ _ (w .1) _ (d .choose-for .ensures) _ (c .leave .ensures) in
     (omega (arith, l, w .0), second-walks _ _ _ _ (w .1) _ (d .choose-for .ensures) _ (c .leave .ensures) _ (u .node .ensures .1))
@@ -165,7 +168,7 @@ branch-returns-3 t c =
     let f = g .before .before in
     let u = f .before in
     let k = u .before in
-    let d = k .before .before .before in
+    let d = k .before .before .before .before in
     let w = d .before .before .before .before .before .before .pre .1 in (
       branch-goes _ _ _ _ w _ (d .choose-for .ensures) _ (with t k) (u .node .result) (u .node .ensures .0) (f .if1 .left) _ (g .before .is-reached .ensures)
           (g .if2 .left) _ (c .before .leave .ensures) (c .node2 .result) (c .node2 .ensures .0),
@@ -268,6 +271,7 @@ pub +branch+node-spec : {M : Type 1} → statement M
     (branch-at t)
     branch.Post
     (branch-choose-requires t)
+    (branch-cast-j t)
     (branch-mul-join t)
     (branch-element-copy-out-join t)
     (branch-join-requires t)

@@ -1,5 +1,6 @@
 -- The row and the column found are those that the rules pick.
-use Rattle.tree.proofs.Choosing.{choice-row, choice-room, choice-made}
+use native.Mathlib.Omega.{arith}
+use Rattle.tree.proofs.Choosing.{choice-row, choice-room, choice-made, choice-low}
 use borrow.Author.Needs.{needs}
 use Rattle.tree.proofs.choose.Statement.{statement}
 use Rattle.tree.proofs.choose.Tie as tie
@@ -12,6 +13,11 @@ cast-i c = search needs
 
 branch-column-requires : tie.Need-branch-column-requires
 branch-column-requires c κs = choice-row _ _ (c .before .before .before .pre) _ (c .before .branch-row .ensures)
+
+cast-t9 : tie.Need-cast-t9
+cast-t9 c =
+    let a = c .before .before in
+    omega (arith, choice-low _ _ (a .before .before .pre) _ (a .branch-row .ensures) _ (c .branch-column .ensures))
 
 without-bound-requires : tie.Need-without-bound-requires
 without-bound-requires c κs =
@@ -30,5 +36,6 @@ choose-spec =
     branch-row-requires
     cast-i
     branch-column-requires
+    cast-t9
     without-bound-requires
     returns)
