@@ -151,21 +151,15 @@ pub fn settle(goal: Goal, s: Node, matrix: &[u16]) -> Settled
     match goal {
         Goal::Sum => {
             let done = reduce_node(node, matrix);
-            let reduced = done.node;
-            Settled {
-                node: reduced,
-                alive: true,
-                full: false,
-            }
+            node = done.node;
         }
         Goal::Longest => {
-            let bound = raise(&node.cost, &node.column, &node.row, node.bound, matrix);
-            node.bound = bound;
-            Settled {
-                node: node,
-                alive: true,
-                full: false,
-            }
+            node.bound = raise(&node.cost, &node.column, &node.row, node.bound, matrix);
         }
+    }
+    Settled {
+        node: node,
+        alive: true,
+        full: false,
     }
 }
