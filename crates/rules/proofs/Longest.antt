@@ -3,30 +3,34 @@
 use mathlib.Core.Path.{_≡_, refl, sym, ap, _∙_}
 use mathlib.Core.Bool.{Bool, true, false, cond, _&&_, true≢false}
 use mathlib.Core.List.{List, [], _∷_}
-use Prim.Native.Nat.{ℕ, _-_, _≤_, _<_, max}
+use Prim.Native.Nat.{ℕ, suc, _-_, _≤_, _<_, max}
 use native.Mathlib.Omega.{arith}
 use lib.ListN.{length, getD}
 use lib.Dec.{leb, eqb}
 use borrow.Author.Tests.{leb-true, leb-false, eqb-true, eqb-false}
 use Rattle.node.specs.declared.Node.{Node}
 use Rattle.node.specs.Lists.{on, least, isEmpty}
-use Rattle.node.specs.Matrix.{Matrix, width, columns, IsPlan}
+use Rattle.node.specs.Matrix.{Matrix, width, columns, IsPlan, Shows}
 use Rattle.node.specs.Stored.{FitsNode}
-use Rattle.node.specs.Node.{isFree, isTaken, costAt, freeColumns, freeOf, openRows, root, take, leave}
+use Rattle.node.specs.Node.{isFree, isTaken, costAt, freeColumns, freeOf, openRows, taken, root, take, leave}
 use Rattle.rules.specs.Reduce.{leastOf}
 use Rattle.rules.specs.declared.Forced.{Forced}
-use Rattle.rules.specs.Tree.{live, rootBound, answer}
+use Rattle.rules.specs.Force.{force}
+use Rattle.rules.specs.Search.{Incumbent, nothing}
+use Rattle.rules.specs.Tree.{live, zeros, dearer, penalty, rowBefore, sharing, columnBefore, branchOn, reduced, living, visit, fullTree, rootBound, answer}
 use Rattle.rules.specs.Identity.{Completion}
 use Rattle.rules.specs.Demand.{Demand3}
-use Rattle.rules.specs.Longest.{largest, dearest, topped, raised, excess, longest, floor}
+use Rattle.rules.specs.Longest.{largest, dearest, topped, raised, excess, longest, floor, withBound, floored, byFloor}
 use Rattle.node.proofs.Members.{member-upto, upto-lt, least-at, least-le}
 use Rattle.rules.proofs.Plans.{Open, Free, FreeIn, Sound, not-taken, not-free, root-sound, root-free, root-cost, root-comp, comp-same}
 use Rattle.rules.proofs.Plans.{sound-same}
 use Rattle.rules.proofs.Decide.{Decided, stays, goes, joins, undo, still-free}
 use Rattle.rules.proofs.Steps.{take-decides, take-self, take-other, take-sound, leave-decides, leave-taken, leave-rest, leave-sound}
-use Rattle.rules.proofs.Rows.{open-in, in-open, free-in, in-free, some-free}
+use Rattle.rules.proofs.Rows.{size, open-in, in-open, free-in, in-free, some-free}
 use Rattle.rules.proofs.Variants.{Forces, Stepping, Laws, plain-forces}
-use Rattle.rules.proofs.Demand.{demand-3}
+use Rattle.rules.proofs.Walks.{walk-same}
+use Rattle.rules.proofs.Visits.{Completes, visit-law}
+use Rattle.rules.proofs.Demand.{demand-3, dead-settled}
 use Rattle.rules.proofs.Floors.{largest-le, le-largest, largest-cong, Tight, root-tight, take-tight, leave-tight, raised-tight, tight-floor}
 
 under : (f x : Bool) (v c : ℕ) → (f ≡ true → x ≡ true → v ≤ c) → on (f && x) v ≤ c
@@ -231,3 +235,62 @@ module _ (p : Matrix) (F : FitsNode p) (cs : List ℕ) where
       → rootBound (longest p) p (live (root p cs)) ≡ floor p cs (t .node)
   unfolding rootBound
   root-floor t e h = rw (← e) (node-floor (root p cs) root-high t e h)
+
+  -- by the open rows
+  floor-rows : (s : Node) → High p cs s → (t : Forced) → t ≡ longest p .settle s → t .alive ≡ true → (is : List ℕ) → openRows p (t .node) ≡ is
+      → cond (isEmpty is) (t .node .bound) (raised p (t .node) .bound) ≡ floor p cs (t .node)
+  floor-rows s g t e h is q = rw q at (node-floor s g t e h)
+
+  -- the search with the floor worked out anew visits each node alike,
+  floor-visit : (s : Node) (k : Incumbent) → High p cs s → visit (byFloor p cs) p s k ≡ visit (longest p) p s k
+  unfolding visit floored living reduced branchOn zeros dearer penalty rowBefore sharing columnBefore raised openRows taken isEmpty
+  floor-visit s k g = go (t .alive) refl (openRows p (t .node)) refl
+    where
+      t : Forced
+      t = force topped p s
+
+      u : Node
+      u = withBound (t .node) (floor p cs (t .node))
+
+      go : (b : Bool) → t .alive ≡ b → (is : List ℕ) → openRows p (t .node) ≡ is
+          → visit (byFloor p cs) p s k ≡ visit (longest p) p s k
+      go false e is q = rw e
+      go true e is q = rw (e, q) (by-rows is (floor-rows s g t refl e is q))
+        where
+          by-rows : (js : List ℕ) → cond (isEmpty js) (t .node .bound) (raised p (t .node) .bound) ≡ floor p cs (t .node)
+              → living (byFloor p cs) p u k js ≡ living (longest p) p (t .node) k js
+          by-rows [] h = rw h
+          by-rows (i ∷ js) h = rw h
+
+  -- so it walks the same tree,
+  floor-tree : fullTree (byFloor p cs) p (live (root p cs)) ≡ fullTree (longest p) p (live (root p cs))
+  unfolding fullTree
+  floor-tree =
+      walk-same (IsPlan p) (dearest p cs) (Shows p (IsPlan p) (dearest p cs)) (High p cs) (size p) (Completes p (IsPlan p)) (visit (longest p) p)
+      (visit-law p F (longest p) (IsPlan p) (dearest p cs) (High p cs) (live (root p cs)) longest-laws) (visit (byFloor p cs) p) floor-visit
+      (suc (width p)) (root p cs) nothing root-high
+
+  floor-bound : force topped p (root p cs) .alive ≡ true
+      → rootBound (byFloor p cs) p (live (root p cs)) ≡ rootBound (longest p) p (live (root p cs))
+  unfolding floored rootBound
+  floor-bound e =
+      let t : Forced = force topped p (root p cs) in
+      let u : Node = withBound (t .node) (floor p cs (t .node)) in
+      rw e (both (isEmpty (openRows p u)) (u .bound)) ∙ sym (root-floor t refl e)
+    where
+      both : (b : Bool) (n : ℕ) → cond b n n ≡ n
+      both true n = refl
+      both false n = refl
+
+  -- and answers alike, for any allowance
+  pub floor-answer : (limit : ℕ) → 1 ≤ limit
+      → answer (byFloor p cs) p (live (root p cs)) limit ≡ answer (longest p) p (live (root p cs)) limit
+  unfolding answer floored
+  floor-answer limit l = go (force topped p (root p cs) .alive) refl
+    where
+      s : Node
+      s = root p cs
+
+      go : (b : Bool) → force topped p s .alive ≡ b → answer (byFloor p cs) p (live s) limit ≡ answer (longest p) p (live s) limit
+      go true e = rw (floor-tree, floor-bound e)
+      go false e = dead-settled (byFloor p cs) p s (rw e) _ limit l ∙ sym (dead-settled (longest p) p s e _ limit l)

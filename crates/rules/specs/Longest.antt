@@ -1,6 +1,6 @@
 -- The longest duty as the goal (02, P1): the largest cost among a plan's columns is to be least. A node's costs stay those of the file,
 -- and its bound (01: floor) is the larger of the dearest column taken and the largest, over the open rows, of a row's least cost.
-use mathlib.Core.Bool.{Bool}
+use mathlib.Core.Bool.{Bool, true, cond}
 use mathlib.Core.List.{List, [], _∷_}
 use Prim.Native.Nat.{ℕ, _-_, max}
 use lib.ListN.{getD}
@@ -8,6 +8,7 @@ use Rattle.node.specs.declared.Node.{Node}
 use Rattle.node.specs.Lists.{on, least}
 use Rattle.node.specs.Matrix.{Matrix, columns}
 use Rattle.node.specs.Node.{isTaken, costAt, freeOf, openRows}
+use Rattle.rules.specs.declared.Forced.{Forced}
 use Rattle.rules.specs.Force.{force}
 use Rattle.rules.specs.Reduce.{leastOf}
 use Rattle.rules.specs.Tree.{Variant}
@@ -46,3 +47,13 @@ longest p = record { settle = force topped p; join = topped; lowered = raised p;
 -- least cost of a free column
 unfoldable pub floor : Matrix → List ℕ → Node → ℕ
 floor p costs s = max (dearest p costs (isTaken s)) (largest (λ i. least (λ j. getD costs j 0) (freeOf p s i)) (openRows p s))
+
+-- the same search with that floor worked out anew, at each node that lives on after forcing
+abbrev pub withBound : Node → ℕ → Node
+withBound s b = record { cost = s .cost; column = s .column; row = s .row; bound = b }
+
+unfoldable pub floored : Matrix → List ℕ → Forced → Forced
+floored p costs f = cond (f .alive) (record { node = withBound (f .node) (floor p costs (f .node)); alive = true }) f
+
+abbrev pub byFloor : Matrix → List ℕ → Variant
+byFloor p costs = record { settle = λ s. floored p costs (force topped p s); join = topped; lowered = λ s. s; present = excess }
