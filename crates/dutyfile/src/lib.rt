@@ -147,3 +147,23 @@ pub fn is_rising(body: &[u8], rows: usize) -> bool
     }
     true
 }
+
+// Whether numbers of columns rise within 1 to `most`: test 12, and 02's tests 14 and 15.
+pub fn columns_rise(columns: &[u16], most: usize) -> bool
+    ensures { λ r. ⌜ r ≡ rising 0 most (now (columns .entry)) ⌝ }
+{
+    let mut last: usize = 0;
+    let mut i = 0;
+    while i < columns.len() {
+        let column = columns[i] as usize;
+        if column <= last {
+            return false;
+        }
+        if most < column {
+            return false;
+        }
+        last = column;
+        i += 1;
+    }
+    true
+}

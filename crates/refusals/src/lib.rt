@@ -2,7 +2,7 @@
 ghost use mathlib.Core.Path.{_≡_};
 ghost use Rattle.refusals.specs.Refusals.{numberOf};
 
-// 01's table "When a call declines", a case for each cause.
+// 01's table "When a call declines", with 02's numbers from 14 on: a case for each cause.
 pub enum Refusal {
     // Under 8 bytes, or not SPP1.
     Magic,
@@ -30,6 +30,10 @@ pub enum Refusal {
     Offered,
     // The writer's lists disagree in length.
     Lists,
+    // An agreed column is out of range or not rising.
+    Agreed,
+    // An absent column is out of range or not rising.
+    Absent,
 }
 
 // What a test, or a sequence of tests, comes to.
@@ -56,5 +60,7 @@ pub fn number(why: Refusal) -> u32
         Refusal::NodeLimit => 11,
         Refusal::Offered => 12,
         Refusal::Lists => 13,
+        Refusal::Agreed => 14,
+        Refusal::Absent => 15,
     }
 }

@@ -1,4 +1,4 @@
--- Both goals as one: the steps of a search, what they ask of a node and keep, and demand 3.
+-- Both goals as one: the steps of a search, and what they ask of a node and keep.
 use mathlib.Core.Path.{_≡_, refl}
 use mathlib.Core.List.{List, [], _∷_}
 use Prim.Native.Nat.{ℕ, _≤_, _<_}
@@ -12,10 +12,8 @@ use Rattle.rules.specs.declared.Goal.{Goal}
 use Rattle.rules.specs.declared.Goal.the-variants.{Sum, Longest}
 use Rattle.rules.specs.Force.{force}
 use Rattle.rules.specs.Reduce.{leastOf}
-use Rattle.rules.specs.Tree.{live, answer}
-use Rattle.rules.specs.Demand.{Demand3}
 use Rattle.rules.specs.Longest.{topped, raised, longest}
-use Rattle.rules.specs.Goals.{searchFor, valueFor}
+use Rattle.rules.specs.Goals.{searchFor}
 use Rattle.node.proofs.Members.{least-at}
 use Rattle.rules.proofs.Sums.{total-one}
 use Rattle.rules.proofs.Plans.{Free, Sound, root-free, sound-same}
@@ -23,9 +21,9 @@ use Rattle.rules.proofs.Steps.{take-sound, leave-sound, leave-rest}
 use Rattle.rules.proofs.Rows.{free-in}
 use Rattle.rules.proofs.Variants.{Stepping}
 use Rattle.rules.proofs.Costs.{Fair, costLimit, Workable, take-fair, leave-fair, lower-fair}
-use Rattle.rules.proofs.Sum.{sum-steps, sum-demand-3}
+use Rattle.rules.proofs.Sum.{sum-steps}
 use Rattle.rules.proofs.Floors.{largest-le}
-use Rattle.rules.proofs.Longest.{raised-parts, longest-steps, longest-demand-3}
+use Rattle.rules.proofs.Longest.{raised-parts, longest-steps}
 
 pub goal-settle : (g : Goal) (p : Matrix) → searchFor g p .settle ≡ force (searchFor g p .join) p
 unfolding searchFor
@@ -118,9 +116,3 @@ goal-root Longest l cs w =
         low = omega (arith, w .fair .within);
       };
     }
-
-pub goal-demand-3 : (g : Goal) (p : Matrix) → FitsNode p → (cs : List ℕ) (limit : ℕ)
-    → Demand3 p (searchFor g p) (live (root p cs)) (IsPlan p) (valueFor g p cs) limit (answer (searchFor g p) p (live (root p cs)) limit)
-unfolding searchFor valueFor
-goal-demand-3 Sum p F cs = sum-demand-3 p F cs
-goal-demand-3 Longest p F cs = longest-demand-3 p F cs

@@ -230,12 +230,6 @@ module _ (p : Matrix) (F : FitsNode p) (cs : List ℕ) where
       let f : Forces p (IsPlan p) (High p cs) s t = rw e (longest-laws .steps .forcing s g) in
       tight-floor p cs (t .node) (f .good .tight) (f .two h)
 
-  -- so the root's lower bound (02: root floor) is the floor of the root when it is forced
-  pub root-floor : (t : Forced) → t ≡ longest p .settle (root p cs) → t .alive ≡ true
-      → rootBound (longest p) p (live (root p cs)) ≡ floor p cs (t .node)
-  unfolding rootBound
-  root-floor t e h = rw (← e) (node-floor (root p cs) root-high t e h)
-
   -- by the open rows
   floor-rows : (s : Node) → High p cs s → (t : Forced) → t ≡ longest p .settle s → t .alive ≡ true → (is : List ℕ) → openRows p (t .node) ≡ is
       → cond (isEmpty is) (t .node .bound) (raised p (t .node) .bound) ≡ floor p cs (t .node)
@@ -262,35 +256,41 @@ module _ (p : Matrix) (F : FitsNode p) (cs : List ℕ) where
           by-rows [] h = rw h
           by-rows (i ∷ js) h = rw h
 
-  -- so it walks the same tree,
-  floor-tree : fullTree (byFloor p cs) p (live (root p cs)) ≡ fullTree (longest p) p (live (root p cs))
-  unfolding fullTree
-  floor-tree =
-      walk-same (IsPlan p) (dearest p cs) (Shows p (IsPlan p) (dearest p cs)) (High p cs) (size p) (Completes p (IsPlan p)) (visit (longest p) p)
-      (visit-law p F (longest p) (IsPlan p) (dearest p cs) (High p cs) (live (root p cs)) longest-laws) (visit (byFloor p cs) p) floor-visit
-      (suc (width p)) (root p cs) nothing root-high
+  -- from a first node, the root or one that lists give
+  module _ (s : Node) (Ok : (ℕ → Bool) → Type 0) (Good : Node → Type 0) (L : Laws p (longest p) (live s) Ok (dearest p cs) Good)
+      (high : (t : Node) → Good t → High p cs t) where
+    first-high : High p cs s
+    first-high = high s (L .start-good refl)
 
-  floor-bound : force topped p (root p cs) .alive ≡ true
-      → rootBound (byFloor p cs) p (live (root p cs)) ≡ rootBound (longest p) p (live (root p cs))
-  unfolding floored rootBound
-  floor-bound e =
-      let t : Forced = force topped p (root p cs) in
-      let u : Node = withBound (t .node) (floor p cs (t .node)) in
-      rw e (both (isEmpty (openRows p u)) (u .bound)) ∙ sym (root-floor t refl e)
-    where
-      both : (b : Bool) (n : ℕ) → cond b n n ≡ n
-      both true n = refl
-      both false n = refl
+    -- its lower bound (02: root floor) is its floor when it is forced
+    pub root-floor : (t : Forced) → t ≡ longest p .settle s → t .alive ≡ true → rootBound (longest p) p (live s) ≡ floor p cs (t .node)
+    unfolding rootBound
+    root-floor t e h = rw (← e) (node-floor s first-high t e h)
 
-  -- and answers alike, for any allowance
-  pub floor-answer : (limit : ℕ) → 1 ≤ limit
-      → answer (byFloor p cs) p (live (root p cs)) limit ≡ answer (longest p) p (live (root p cs)) limit
-  unfolding answer floored
-  floor-answer limit l = go (force topped p (root p cs) .alive) refl
-    where
-      s : Node
-      s = root p cs
+    -- so the search with the floor worked out anew walks the same tree,
+    floor-tree : fullTree (byFloor p cs) p (live s) ≡ fullTree (longest p) p (live s)
+    unfolding fullTree
+    floor-tree =
+        walk-same Ok (dearest p cs) (Shows p Ok (dearest p cs)) Good (size p) (Completes p Ok) (visit (longest p) p)
+        (visit-law p F (longest p) Ok (dearest p cs) Good (live s) L) (visit (byFloor p cs) p) (λ t k g. floor-visit t k (high t g))
+        (suc (width p)) s nothing (L .start-good refl)
 
-      go : (b : Bool) → force topped p s .alive ≡ b → answer (byFloor p cs) p (live s) limit ≡ answer (longest p) p (live s) limit
-      go true e = rw (floor-tree, floor-bound e)
-      go false e = dead-settled (byFloor p cs) p s (rw e) _ limit l ∙ sym (dead-settled (longest p) p s e _ limit l)
+    floor-bound : force topped p s .alive ≡ true → rootBound (byFloor p cs) p (live s) ≡ rootBound (longest p) p (live s)
+    unfolding floored rootBound
+    floor-bound e =
+        let t : Forced = force topped p s in
+        let u : Node = withBound (t .node) (floor p cs (t .node)) in
+        rw e (both (isEmpty (openRows p u)) (u .bound)) ∙ sym (root-floor t refl e)
+      where
+        both : (b : Bool) (n : ℕ) → cond b n n ≡ n
+        both true n = refl
+        both false n = refl
+
+    -- and answers alike, for any allowance
+    pub floor-answer : (limit : ℕ) → 1 ≤ limit → answer (byFloor p cs) p (live s) limit ≡ answer (longest p) p (live s) limit
+    unfolding answer floored
+    floor-answer limit l = go (force topped p s .alive) refl
+      where
+        go : (b : Bool) → force topped p s .alive ≡ b → answer (byFloor p cs) p (live s) limit ≡ answer (longest p) p (live s) limit
+        go true e = rw (floor-tree, floor-bound e)
+        go false e = dead-settled (byFloor p cs) p s (rw e) _ limit l ∙ sym (dead-settled (longest p) p s e _ limit l)

@@ -86,6 +86,16 @@ module _ (p : Matrix) (F : FitsNode p) (s : Node) (j : ℕ) (f : Free p s j) (b 
       go (drops m q w h) = rw h (sym (not-taken s k q))
       go (keeps m w h) = rw h
 
+  -- a column that shares a row with it is free no more
+  pub take-meets : (k : ℕ) → k < width p → (k ≡ j → ⊥) → meets p j k ≡ true → isFree (take p s j b) k ≡ false
+  take-meets k l n m = go (isFree s k) refl (at-take p F s j b k l)
+    where
+      go : (a : Bool) → isFree s k ≡ a → At-take p s j b k → isFree (take p s j b) k ≡ false
+      go a e (itself q h) = absurd (n q)
+      go a e (drops d q w h) = rw h
+      go true e (keeps d w h) = absurd (true≢false (sym m ∙ w e))
+      go false e (keeps d w h) = rw h e
+
   -- the completions of the taking branch are those with column j
   pub take-comp : (X : ℕ → Bool) → Completion p s X → X j ≡ true → Completion p (take p s j b) X
   take-comp X c e = redo p s (take p s j b) take-decides X c (λ k l c n. go k l c n (at-take p F s j b k l))
@@ -138,6 +148,9 @@ module _ (p : Matrix) (F : FitsNode p) (s : Node) (j : ℕ) (f : Free p s j) whe
       go true e h = goes (rw (eqb-true k j e) (f .is-free)) h
       go false e h = stays h
 
+  pub leave-self : isFree (leave s j) j ≡ false
+  leave-self = rw leave-j
+
   pub leave-taken : (k : ℕ) → k < width p → isTaken (leave s j) k ≡ isTaken s k
   leave-taken k l = rw (leave-at k l) (go (eqb k j) refl)
     where
@@ -179,4 +192,4 @@ module _ (p : Matrix) (F : FitsNode p) (s : Node) (j : ℕ) (f : Free p s j) whe
       (record { free = still-free p s (leave s j) leave-decides k (h .free); covering = h .covering })))
 
   pub leave-less : length (freeColumns p (leave s j)) < length (freeColumns p s)
-  leave-less = decided-less p s (leave s j) leave-decides j f (rw leave-j)
+  leave-less = decided-less p s (leave s j) leave-decides j f leave-self

@@ -46,7 +46,7 @@ module _ (p : Matrix) (F : FitsNode p) where
   }
 
 module _ (p : Matrix) (F : FitsNode p) (cs : List ℕ) where
-  sum-laws : Laws p (sum p) (live (root p cs)) (IsPlan p) (price p cs) (Good p cs)
+  pub sum-laws : Laws p (sum p) (live (root p cs)) (IsPlan p) (price p cs) (Good p cs)
   sum-laws = record {
     steps =
         sum-steps p F (Good p cs) (λ s g. g .sound) (λ s j f g. take-good p F s j f g) (λ s j f g. leave-good p F s j f g)

@@ -33,6 +33,9 @@ sum p = record { settle = force joined p; join = joined; lowered = λ s. reduce 
 abbrev pub live : Node → Forced
 live s = record { node = s; alive = true }
 
+abbrev pub dead : Node → Forced
+dead s = record { node = s; alive = false }
+
 -- a penalty: a number, or more than any number
 pub data Penalty : Type 0 where
   just : ℕ → Penalty

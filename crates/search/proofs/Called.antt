@@ -1,5 +1,5 @@
--- The public call: a file is refused by its own tests, then by the plan list's room and the node limit; and otherwise what is given is the
--- answer of the rules, of which demand 3 is proved.
+-- The public call: a file is refused by its own tests, then by the plan list's room, the node limit and the lists of columns; and
+-- otherwise what is given is the answer of the rules, of which demand 3 is proved.
 use mathlib.Core.Path.{_≡_, sym, _∙_}
 use mathlib.Core.Bool.{true}
 use mathlib.Core.List.{List}
@@ -7,25 +7,29 @@ use Prim.Native.Nat.{ℕ, suc, _-_, _≤_, _<_}
 use native.Mathlib.Omega.{arith}
 use lib.ListN.{getD}
 use borrow.Author.Tests.{leb-true}
-use Rattle.refusals.specs.Refusals.{fine, fault, accepted, refused, front, filled}
+use Rattle.refusals.specs.Refusals.{fine, fault, _then_, accepted, refused, front, filled}
 use Rattle.refusals.specs.declared.Refusal.{Refusal}
 use Rattle.refusals.proofs.Laws.{both, asked, stops-at, goes-on, unless-fine, unless-fault, fills}
 use Rattle.node.specs.Lists.{member}
-use Rattle.node.specs.Matrix.{Matrix, width, body, covers, IsPlan, Shows}
+use Rattle.node.specs.Matrix.{Matrix, width, body, covers, Shows}
 use Rattle.node.specs.declared.Node.{Node}
 use Rattle.node.specs.Node.{root}
 use Rattle.node.specs.Stored.{matrixIn, Small}
 use Rattle.node.proofs.Members.{member-at}
 use Rattle.rules.specs.Search.{Answer, plan, shownBy}
 use Rattle.rules.specs.declared.Goal.{Goal}
-use Rattle.rules.specs.Tree.{live, answer}
+use Rattle.rules.specs.declared.Forced.{Forced}
+use Rattle.rules.specs.Tree.{answer}
 use Rattle.rules.specs.Goals.{searchFor, valueFor}
+use Rattle.rules.specs.Requests.{Requests, begun, Granted}
 use Rattle.rules.proofs.Plans.{plan-short}
-use Rattle.rules.proofs.Goals.{goal-root, goal-demand-3}
+use Rattle.rules.proofs.Goals.{goal-root}
+use Rattle.rules.proofs.Requests.{Askable, begun-workable}
 use Rattle.dutyfile.specs.declared.Shape.{Shape}
 use Rattle.dutyfile.specs.File.{parse, instance}
 use Rattle.dutyfile.specs.Faults.{fileFault}
 use Rattle.dutyfile.proofs.Facts.{ask-within}
+use Rattle.requests.specs.Numbers.{Begins}
 use Rattle.lists.specs.Loaded.{Loaded}
 use Rattle.visit.specs.Tally.{takenIn}
 use Rattle.solver.specs.declared.Solved.{Solved}
@@ -36,7 +40,10 @@ use Rattle.answer.specs.Answer.{searchOutcome, valuesOf, planNumbers, seen}
 use Rattle.answer.specs.Plan.{PlanFits}
 use Rattle.answer.proofs.Given.{kept-shown}
 use Rattle.search.specs.Searching.{callFault}
+use Rattle.search.specs.Requests.{requestFault, faultWith}
 use Rattle.search.specs.Goals.{answerFor, searchingFor, listFor, DemandFor}
+use Rattle.search.proofs.Listed.{numbers, listed}
+use Rattle.search.proofs.Demanded.{demanded}
 
 -- each column covers a row
 some-row : (p : Matrix) → Small p → (j : ℕ) → j < width p → (i : ℕ) × (i < p .rows) × (covers p i j ≡ true)
@@ -49,68 +56,87 @@ some-row p s j l =
     (r - 1, omega (arith, w .0, w .1), rw e m)
 
 -- demand 3 of the answer that is seen
-abbrev Demanded : Goal → List ℕ → ℕ → SearchAnswer → List ℕ → Type 0
-Demanded g file limit r list = (x : Answer) → seen r list ≡ accepted x → DemandFor g file limit x
+abbrev Demanded : Goal → List ℕ → ℕ → Requests → SearchAnswer → List ℕ → Type 0
+Demanded g file limit q r list = (x : Answer) → seen r list ≡ accepted x → DemandFor g file limit q x
 
 -- of a refusal no answer is seen
-pub refused-demand : (g : Goal) (s : List ℕ) (limit : ℕ) (why : Refusal) (list : List ℕ) → Demanded g s limit (Refused why) list
+pub refused-demand : (g : Goal) (s : List ℕ) (limit : ℕ) (q : Requests) (why : Refusal) (list : List ℕ) → Demanded g s limit q (Refused why) list
 unfolding seen
-refused-demand g s limit why list = λ x e. absurd (let z : _≡_ {A = ℕ} 0 1 = cc in omega arith)
+refused-demand g s limit q why list = λ x e. absurd (let z : _≡_ {A = ℕ} 0 1 = cc in omega arith)
 
-module _ (g : Goal) (s : List ℕ) (limit places : ℕ) where
-  pub refused-file : (k : ℕ) → fileFault s ≡ fault k → refused k ≡ searchingFor g s limit places
-  unfolding searchingFor
+module _ (g : Goal) (s : List ℕ) (limit places : ℕ) (q : Requests) where
+  pub refused-file : (k : ℕ) → fileFault s ≡ fault k → refused k ≡ searchingFor g s limit q places
+  unfolding searchingFor faultWith
   refused-file k h = unless-fault _ k (stops-at k _ h)
 
   module _ (found : Shape) (l costs : List ℕ) (k : Loaded s found l costs) where
-    pub refused-call : (n : ℕ) → callFault found places limit ≡ fault n → refused n ≡ searchingFor g s limit places
-    unfolding searchingFor
+    pub refused-call : (n : ℕ) → (callFault found places limit then requestFault found q) ≡ fault n → refused n ≡ searchingFor g s limit q places
+    unfolding searchingFor faultWith
     refused-call n h = unless-fault _ n (goes-on _ (k .passes) ∙ rw (sym (k .shape-is)) at h)
 
-    module _ (fits : callFault found places limit ≡ fine) (first : Node) (is : first ≡ root (matrixIn l) costs) where
-      pub searchable : Searchable g l first limit
-      unfolding callFault
-      searchable =
-          let h = ask-within 1 1000000 limit 11 (both _ _ fits .1) in
-          record { some = rw is (goal-root g l costs (k .workable)); one = h .least; limited = h .most }
+    module _ (fits : (callFault found places limit then requestFault found q) ≡ fine) (first : Node) (is : first ≡ root (matrixIn l) costs) where
+      fits-call : callFault found places limit ≡ fine
+      fits-call = both _ _ fits .0
 
-      module _ (done : Solved) (ends : solvedAnswer (width (matrixIn l)) done ≡ answer (searchFor g (matrixIn l)) (matrixIn l) (live first) limit) where
-        answers : solvedAnswer (found .columns) done ≡ answerFor g s limit
-        unfolding answerFor instance
-        answers = rw (← k .columns-is) (ends ∙ rw (is ∙ k .root-is, k .is))
+      all-fine : faultWith s limit q places ≡ fine
+      unfolding faultWith
+      all-fine = goes-on _ (k .passes) ∙ rw (sym (k .shape-is)) at fits
 
-        small : Small (instance (parse s) .matrix)
-        small = rw (k .is) at (k .kept .small)
+      askable : Askable (matrixIn l) q
+      askable = listed (matrixIn l) found q (k .columns-is) (both _ _ fits .1)
 
-        demand : DemandFor g s limit (answerFor g s limit)
-        unfolding answerFor
-        demand = goal-demand-3 g _ (small .fits) _ limit
+      pub begins : Begins g l first q
+      begins =
+          let n = numbers (matrixIn l) found q (k .columns-is) (both _ _ fits .1) in
+          record { some = rw is (goal-root g l costs (k .workable)); agreed = n .0; absent = n .1 }
 
-        pub plan-fits : PlanFits done (found .columns) places
-        unfolding callFault instance
-        plan-fits = record {
-          wide = omega (arith, k .columns-is, k .kept .small .fits .wide);
-          room = λ h.
-              let p : Matrix = instance (parse s) .matrix in
-              let js : List ℕ = takenIn (found .columns) (done .tally .plan) in
-              let e : shownBy (answerFor g s limit) ≡ plan (done .tally .cost) js = rw answers at (kept-shown (found .columns) done h) in
-              let w : Shows p (IsPlan p) (valueFor g p (parse s .costs)) (done .tally .cost) js = demand .shown _ _ e in
-              let r : found .rows ≤ places = leb-true _ _ (asked _ 10 (both _ _ fits .0)) in
-              omega (arith, plan-short p (some-row p small) js (w .listed) (w .ok), rw (k .is) at (k .rows-is), r);
-        }
+      module _ (start : Forced) (starts : start ≡ begun (searchFor g (matrixIn l)) (matrixIn l) q first) where
+        pub searchable : Searchable g l (start .node) limit
+        unfolding callFault
+        searchable =
+            let h = ask-within 1 1000000 limit 11 (both _ _ fits-call .1) in
+            record {
+              some = rw (starts, is) (begun-workable g l costs q askable (goal-root g l costs (k .workable)));
+              one = h .least;
+              limited = h .most;
+            }
 
-        module _ (r : SearchAnswer) (told : searchOutcome r ≡ accepted (valuesOf (solvedAnswer (found .columns) done))) where
-          pub given-answer : searchOutcome r ≡ searchingFor g s limit places
-          unfolding searchingFor
-          given-answer = told ∙ rw answers (unless-fine (valuesOf (answerFor g s limit)) (goes-on _ (k .passes) ∙ rw (sym (k .shape-is)) at fits))
+        module _ (done : Solved) (ends : solvedAnswer (width (matrixIn l)) done ≡ answer (searchFor g (matrixIn l)) (matrixIn l) start limit) where
+          answers : solvedAnswer (found .columns) done ≡ answerFor g s limit q
+          unfolding answerFor instance
+          answers = rw (← k .columns-is) (ends ∙ rw (starts, is ∙ k .root-is, k .is))
 
-          pub given-plan : (new old : List ℕ) → new ≡ front (planNumbers (shownBy (solvedAnswer (found .columns) done))) old →
-              new ≡ filled (searchOutcome r) (listFor g s limit) old
-          unfolding listFor
-          given-plan new old h = rw answers at h ∙ sym (fills _ (listFor g s limit) old told)
+          small : Small (instance (parse s) .matrix)
+          small = rw (k .is) at (k .kept .small)
 
-        pub given-demand : (r : SearchAnswer) (list : List ℕ) → seen r list ≡ accepted (solvedAnswer (found .columns) done) → Demanded g s limit r list
-        given-demand r list h = λ x q.
-            let z : accepted x ≡ accepted (answerFor g s limit) = sym q ∙ rw answers at h in
-            let y : answerFor g s limit ≡ x = cc in
-            rw y at demand
+          demand : DemandFor g s limit q (answerFor g s limit q)
+          demand = demanded g s limit q places all-fine
+
+          pub plan-fits : PlanFits done (found .columns) places
+          unfolding callFault instance
+          plan-fits = record {
+            wide = omega (arith, k .columns-is, k .kept .small .fits .wide);
+            room = λ h.
+                let p : Matrix = instance (parse s) .matrix in
+                let js : List ℕ = takenIn (found .columns) (done .tally .plan) in
+                let e : shownBy (answerFor g s limit q) ≡ plan (done .tally .cost) js = rw answers at (kept-shown (found .columns) done h) in
+                let w : Shows p (Granted p q) (valueFor g p (parse s .costs)) (done .tally .cost) js = demand .shown _ _ e in
+                let r : found .rows ≤ places = leb-true _ _ (asked _ 10 (both _ _ fits-call .0)) in
+                omega (arith, plan-short p (some-row p small) js (w .listed) (w .ok .ok), rw (k .is) at (k .rows-is), r);
+          }
+
+          module _ (r : SearchAnswer) (told : searchOutcome r ≡ accepted (valuesOf (solvedAnswer (found .columns) done))) where
+            pub given-answer : searchOutcome r ≡ searchingFor g s limit q places
+            unfolding searchingFor faultWith
+            given-answer = told ∙ rw answers (unless-fine (valuesOf (answerFor g s limit q)) all-fine)
+
+            pub given-plan : (new old : List ℕ) → new ≡ front (planNumbers (shownBy (solvedAnswer (found .columns) done))) old →
+                new ≡ filled (searchOutcome r) (listFor g s limit q) old
+            unfolding listFor
+            given-plan new old h = rw answers at h ∙ sym (fills _ (listFor g s limit q) old told)
+
+          pub given-demand : (r : SearchAnswer) (list : List ℕ) → seen r list ≡ accepted (solvedAnswer (found .columns) done) → Demanded g s limit q r list
+          given-demand r list h = λ x w.
+              let z : accepted x ≡ accepted (answerFor g s limit q) = sym w ∙ rw answers at h in
+              let y : answerFor g s limit q ≡ x = cc in
+              rw y at demand

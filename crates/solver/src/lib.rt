@@ -1,7 +1,10 @@
-// The search of a matrix from a first node: the tally of the walk within a node limit, and the first node's lower bound.
+// The search of a matrix from a start, a first node that is alive or dead: the tally of the walk within a node limit, and the first node's
+// lower bound.
 use node::Node;
+use rules::Forced;
 use rules::Goal;
 use visit::Tally;
+use visit::enter;
 use visit::fresh_tally;
 use visit::settle;
 ghost use mathlib.Core.Path.{_≡_};
@@ -18,8 +21,8 @@ pub struct Solved {
     pub bound: u32,
 }
 
-// Searches a matrix for a goal, from a first node within a node limit.
-pub fn search_from(goal: Goal, first: Node, matrix: &[u16], limit: u32) -> Solved
+// Searches a matrix for a goal, from a first node that is alive.
+fn search_live(goal: Goal, first: Node, matrix: &[u16], limit: u32) -> Solved
     requires { ⌜ Searchable goal (now matrix) first limit ⌝ }
     ensures { λ r. ⌜ (let p : Matrix = matrixIn (now (matrix .entry)) in solvedAnswer (width p) r ≡ answer (searchFor goal p) p (live first) limit) ⌝ }
 {
@@ -30,5 +33,20 @@ pub fn search_from(goal: Goal, first: Node, matrix: &[u16], limit: u32) -> Solve
     Solved {
         tally: tally,
         bound: root.bound,
+    }
+}
+
+// Searches a matrix for a goal, from a start within a node limit. A dead start is entered and ends, and no bound is answered.
+pub fn search_from(goal: Goal, start: Forced, matrix: &[u16], limit: u32) -> Solved
+    requires { ⌜ Searchable goal (now matrix) (start .node) limit ⌝ }
+    ensures { λ r. ⌜ (let p : Matrix = matrixIn (now (matrix .entry)) in solvedAnswer (width p) r ≡ answer (searchFor goal p) p start limit) ⌝ }
+{
+    if start.alive {
+        return search_live(goal, start.node, matrix, limit);
+    }
+    let fresh = fresh_tally(limit);
+    Solved {
+        tally: enter(fresh),
+        bound: 0,
     }
 }

@@ -5,10 +5,10 @@ use mathlib.Core.List.{List}
 use Prim.Native.Nat.{ℕ, _≤_}
 use native.Mathlib.Omega.{arith}
 use lib.ListN.{length}
-use Rattle.refusals.specs.Refusals.{_then_, unless}
+use Rattle.refusals.specs.Refusals.{fine, unless}
 use Rattle.refusals.proofs.Laws.{both, accepts}
 use Rattle.node.specs.Lists.{keep, upto}
-use Rattle.node.specs.Matrix.{Matrix, width, IsPlan, chosen}
+use Rattle.node.specs.Matrix.{Matrix, width, chosen}
 use Rattle.node.specs.Stored.{FitsNode}
 use Rattle.node.proofs.Members.{keep-upto}
 use Rattle.node.specs.declared.Node.{Node}
@@ -16,13 +16,14 @@ use Rattle.node.specs.Node.{root}
 use Rattle.rules.specs.Reduce as rules
 use Rattle.rules.specs.Search.{nothing, plan, Answer, best, none, stopped, shownBy}
 use Rattle.rules.specs.declared.Forced.{Forced}
-use Rattle.rules.specs.Tree.{Variant, live}
+use Rattle.rules.specs.declared.Goal.the-variants.{Sum, Longest}
+use Rattle.rules.specs.Tree.{Variant}
 use Rattle.rules.specs.Demand.{Demand3}
-use Rattle.rules.proofs.Sum.{sum-demand-3}
-use Rattle.rules.proofs.Longest.{longest-demand-3}
+use Rattle.rules.specs.Goals.{searchFor, valueFor}
+use Rattle.rules.specs.Requests.{Requests, Granted}
 use Rattle.rules.proofs.Reducing.{used-few}
 use Rattle.dutyfile.specs.File.{Lists, parse, render, instance, shape}
-use Rattle.dutyfile.specs.Faults.{contentsFault, fileFault, reading, writing}
+use Rattle.dutyfile.specs.Faults.{contentsFault, reading, writing}
 use Rattle.dutyfile.proofs.Facts.{Accepted, file-fine, contents-small}
 use Rattle.dutyfile.proofs.Round.{write-then-read}
 use Rattle.verify.specs.Verdict.{named, checking}
@@ -31,8 +32,9 @@ use Rattle.matrix.proofs.Accepted.{file-small}
 use Rattle.reduce.specs.declared.Bound.{Bound}
 use Rattle.reduce.specs.Answer.{reducing, boundOf, reducedRoot}
 use Rattle.answer.specs.Answer.{shownOf, valuesOf}
-use Rattle.search.specs.Searching.{callFault, fileAnswer, searching}
-use Rattle.search.specs.Longest.{longestAnswer, longestSearching}
+use Rattle.search.specs.Requests.{faultWith, answerWith, searchingWith, longestAnswerWith, longestSearchingWith}
+use Rattle.search.specs.Goals.{answerFor}
+use Rattle.search.proofs.Demanded.{demanded}
 use Rattle.flat.specs.Fits.{ShapeFits, LengthFits, RowFits, UsedFits, columnsIn, ColumnsFit}
 
 shape-low : (s : List ℕ) → Accepted s → (shape s .rows ≤ 64) × (shape s .columns ≤ 256) × (shape s .entries ≤ 4096)
@@ -88,19 +90,21 @@ values-low p w o start Ok value limit x d = go x refl
     go (stopped nothing b n) e = omega arith
     go (stopped (plan c js) b n) e = few c js (rw e)
 
-searched-fits : (s : List ℕ) (limit places : ℕ) (o : Variant) (value : (ℕ → Bool) → ℕ) (x : Answer) →
+-- nor do the calls' plans
+searched-fits : (s : List ℕ) (limit : ℕ) (q : Requests) (places : ℕ) (o : Variant) (start : Forced) (value : (ℕ → Bool) → ℕ) (x : Answer) →
     let p : Matrix = instance (parse s) .matrix in
-    (FitsNode p → Demand3 p o (live (root p (parse s .costs))) (IsPlan p) value limit x) →
-    ColumnsFit (unless (fileFault s then callFault (shape s) places limit) (valuesOf x))
-searched-fits s limit places o value x d v e =
+    (faultWith s limit q places ≡ fine → Demand3 p o start (Granted p q) value limit x) →
+    ColumnsFit (unless (faultWith s limit q places) (valuesOf x))
+unfolding faultWith
+searched-fits s limit q places o start value x d v e =
     let t = accepts _ _ _ e in
     let F : FitsNode (instance (parse s) .matrix) = file-small s (file-fine s (both _ _ (t .0) .0)) .fits in
-    rw (sym (t .1)) (values-low _ (F .wide) o _ _ value limit x (d F))
+    rw (sym (t .1)) (values-low _ (F .wide) o start _ value limit x (d (t .0)))
 
-pub searching-fits : (s : List ℕ) (limit places : ℕ) → ColumnsFit (searching s limit places)
-unfolding searching fileAnswer instance
-searching-fits s limit places = searched-fits s limit places _ _ _ (λ F. sum-demand-3 _ F _ limit)
+pub searching-fits : (s : List ℕ) (limit : ℕ) (q : Requests) (places : ℕ) → ColumnsFit (searchingWith s limit q places)
+unfolding searchingWith answerWith searchFor valueFor answerFor
+searching-fits s limit q places = searched-fits s limit q places _ _ _ _ (demanded Sum s limit q places)
 
-pub longest-fits : (s : List ℕ) (limit places : ℕ) → ColumnsFit (longestSearching s limit places)
-unfolding longestSearching longestAnswer instance
-longest-fits s limit places = searched-fits s limit places _ _ _ (λ F. longest-demand-3 _ F _ limit)
+pub longest-fits : (s : List ℕ) (limit : ℕ) (q : Requests) (places : ℕ) → ColumnsFit (longestSearchingWith s limit q places)
+unfolding longestSearchingWith longestAnswerWith searchFor valueFor answerFor
+longest-fits s limit q places = searched-fits s limit q places _ _ _ _ (demanded Longest s limit q places)

@@ -5,7 +5,7 @@ use Prim.Native.Nat.{ℕ, _<_}
 use native.Mathlib.Omega.{arith}
 use Rattle.refusals.specs.Refusals.{accepted, numberOf}
 use Rattle.refusals.specs.declared.Refusal.{Refusal}
-use Rattle.refusals.specs.declared.Refusal.the-variants.{Magic, Counts, Contents, Cost, Length, Total, Start, End, Row, Room, NodeLimit, Offered, Lists}
+use Rattle.refusals.specs.declared.Refusal.the-variants.{Magic, Counts, Contents, Cost, Length, Total, Start, End, Row, Room, NodeLimit, Offered, Lists, Agreed, Absent}
 use Rattle.rules.specs.Search.{Answer}
 use Rattle.answer.specs.declared.SearchAnswer.{SearchAnswer}
 use Rattle.answer.specs.declared.SearchAnswer.the-variants.{Best, None, Stopped, StoppedWith, Refused}
@@ -27,6 +27,8 @@ numbered Room = omega arith
 numbered NodeLimit = omega arith
 numbered Offered = omega arith
 numbered Lists = omega arith
+numbered Agreed = omega arith
+numbered Absent = omega arith
 
 seen-flat : (a : SearchAnswer) (list : List ℕ) → answerOf (searchOutcome a) .refusal ≡ 0 → seen a list ≡ accepted (seenIn (answerOf (searchOutcome a)) list)
 unfolding seen searchOutcome answerOf seenIn

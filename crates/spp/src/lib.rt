@@ -8,17 +8,17 @@ use flat::SppWritten;
 ghost use mathlib.Core.Path.{_≡_};
 ghost use lib.ListN.{length};
 ghost use Rattle.refusals.specs.Refusals.{filled};
-ghost use Rattle.node.specs.Matrix.{Matrix, IsPlan, Instance, price};
+ghost use Rattle.node.specs.Matrix.{Matrix, Instance, price};
 ghost use Rattle.node.specs.Node.{root};
-ghost use Rattle.rules.specs.Tree.{sum, live};
+ghost use Rattle.rules.specs.Tree.{sum};
 ghost use Rattle.rules.specs.Demand.{Demand3};
 ghost use Rattle.rules.specs.Longest.{dearest, longest};
+ghost use Rattle.rules.specs.Requests.{Requests, asking, begun, Granted};
 ghost use Rattle.dutyfile.specs.File.{parse, lists, render, instance};
 ghost use Rattle.dutyfile.specs.Faults.{reading, writing};
 ghost use Rattle.verify.specs.Verdict.{checking};
 ghost use Rattle.reduce.specs.Answer.{reducing, reducedCosts, usedRows};
-ghost use Rattle.search.specs.Searching.{searching, planList};
-ghost use Rattle.search.specs.Longest.{longestSearching, longestList};
+ghost use Rattle.search.specs.Requests.{searchingWith, planListWith, longestSearchingWith, longestListWith};
 ghost use Rattle.flat.specs.Flat.{shapeOf, writtenOf, checkedOf, reducedOf, answerOf, seenIn};
 
 // Reads a duty file: m, n and t, with the front of each list filled; or a refusal, with every list as it was.
@@ -75,26 +75,39 @@ pub extern "C" fn spp_core_reduce(file: &[u8], reduced: &mut [u32], order: &mut 
     flat::flat_reduced(answer)
 }
 
-// Searches a duty file for its cheapest plan within a node limit: best, none or stopped, with the columns of the plan shown at the front
-// of the list; or a refusal, with the list as it was.
+// Searches a duty file for its cheapest plan that holds every agreed column and no absent one, within a node limit: best, none or
+// stopped, with the columns of the plan shown at the front of the list; or a refusal, with the list as it was.
 #[no_mangle]
-pub extern "C" fn spp_core_search(file: &[u8], node_limit: u32, plan: &mut [u16]) -> SppAnswer
-    ensures { λ r. ⌜ r ≡ answerOf (searching (now (file .entry)) «node_limit» (length (now (plan .entry)))) ⌝ }
-    ensures { λ _. ⌜ now (plan .exit) ≡ filled (searching (now (file .entry)) «node_limit» (length (now (plan .entry)))) (planList (now (file .entry)) «node_limit») (now (plan .entry)) ⌝ }
-    ensures { λ r. ⌜ (let p : Instance = instance (parse (now (file .entry))) in let m : Matrix = p .matrix in r .refusal ≡ 0 → Demand3 m (sum m) (live (root m (p .costs))) (IsPlan m) (price m (p .costs)) «node_limit» (seenIn r (now (plan .exit)))) ⌝ }
+pub extern "C" fn spp_core_search(
+    file: &[u8],
+    node_limit: u32,
+    agreed: &[u16],
+    absent: &[u16],
+    plan: &mut [u16],
+) -> SppAnswer
+    ensures { λ r. ⌜ r ≡ answerOf (searchingWith (now (file .entry)) «node_limit» (asking (now (agreed .entry)) (now (absent .entry))) (length (now (plan .entry)))) ⌝ }
+    ensures { λ _. ⌜ now (plan .exit) ≡ filled (searchingWith (now (file .entry)) «node_limit» (asking (now (agreed .entry)) (now (absent .entry))) (length (now (plan .entry)))) (planListWith (now (file .entry)) «node_limit» (asking (now (agreed .entry)) (now (absent .entry)))) (now (plan .entry)) ⌝ }
+    ensures { λ r. ⌜ (let p : Instance = instance (parse (now (file .entry))) in let m : Matrix = p .matrix in let q : Requests = asking (now (agreed .entry)) (now (absent .entry)) in r .refusal ≡ 0 → Demand3 m (sum m) (begun (sum m) m q (root m (p .costs))) (Granted m q) (price m (p .costs)) «node_limit» (seenIn r (now (plan .exit)))) ⌝ }
 {
-    let answer = search::search(file, node_limit, plan);
+    let answer = search::search(file, node_limit, agreed, absent, plan);
     flat::flat_answer(answer)
 }
 
-// Searches a duty file for a plan whose dearest duty costs least within a node limit: best, none or stopped, where the price is the
-// largest of the plan's costs, with the columns of the plan shown at the front of the list; or a refusal, with the list as it was.
+// Searches a duty file for a plan whose dearest duty costs least, with lists as for `spp_core_search`, within a node limit: best, none or
+// stopped, where the price is the largest of the plan's costs, with the columns of the plan shown at the front of the list; or a refusal,
+// with the list as it was.
 #[no_mangle]
-pub extern "C" fn spp_core_longest(file: &[u8], node_limit: u32, plan: &mut [u16]) -> SppAnswer
-    ensures { λ r. ⌜ r ≡ answerOf (longestSearching (now (file .entry)) «node_limit» (length (now (plan .entry)))) ⌝ }
-    ensures { λ _. ⌜ now (plan .exit) ≡ filled (longestSearching (now (file .entry)) «node_limit» (length (now (plan .entry)))) (longestList (now (file .entry)) «node_limit») (now (plan .entry)) ⌝ }
-    ensures { λ r. ⌜ (let p : Instance = instance (parse (now (file .entry))) in let m : Matrix = p .matrix in r .refusal ≡ 0 → Demand3 m (longest m) (live (root m (p .costs))) (IsPlan m) (dearest m (p .costs)) «node_limit» (seenIn r (now (plan .exit)))) ⌝ }
+pub extern "C" fn spp_core_longest(
+    file: &[u8],
+    node_limit: u32,
+    agreed: &[u16],
+    absent: &[u16],
+    plan: &mut [u16],
+) -> SppAnswer
+    ensures { λ r. ⌜ r ≡ answerOf (longestSearchingWith (now (file .entry)) «node_limit» (asking (now (agreed .entry)) (now (absent .entry))) (length (now (plan .entry)))) ⌝ }
+    ensures { λ _. ⌜ now (plan .exit) ≡ filled (longestSearchingWith (now (file .entry)) «node_limit» (asking (now (agreed .entry)) (now (absent .entry))) (length (now (plan .entry)))) (longestListWith (now (file .entry)) «node_limit» (asking (now (agreed .entry)) (now (absent .entry)))) (now (plan .entry)) ⌝ }
+    ensures { λ r. ⌜ (let p : Instance = instance (parse (now (file .entry))) in let m : Matrix = p .matrix in let q : Requests = asking (now (agreed .entry)) (now (absent .entry)) in r .refusal ≡ 0 → Demand3 m (longest m) (begun (longest m) m q (root m (p .costs))) (Granted m q) (dearest m (p .costs)) «node_limit» (seenIn r (now (plan .exit)))) ⌝ }
 {
-    let answer = search::longest(file, node_limit, plan);
+    let answer = search::longest(file, node_limit, agreed, absent, plan);
     flat::flat_answer(answer)
 }

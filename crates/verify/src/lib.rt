@@ -20,26 +20,6 @@ pub enum CheckAnswer {
     Refused(Refusal),
 }
 
-// Test 12: whether the offered columns rise within 1 to `most`.
-fn is_rising(columns: &[u16], most: usize) -> bool
-    ensures { λ r. ⌜ r ≡ rising 0 most (now (columns .entry)) ⌝ }
-{
-    let mut last: usize = 0;
-    let mut i = 0;
-    while i < columns.len() {
-        let column = columns[i] as usize;
-        if column <= last {
-            return false;
-        }
-        if most < column {
-            return false;
-        }
-        last = column;
-        i += 1;
-    }
-    true
-}
-
 // The rows of one more body are counted.
 fn count_rows(body: &[u8], covered: &mut [u32; 64])
     requires { ⌜ (length (now covered) ≡ 64) × (rising 0 64 (now body) ≡ true) ⌝ }
@@ -119,7 +99,7 @@ pub fn check_plan(file: &[u8], columns: &[u16]) -> CheckAnswer
     match found {
         ReadAnswer::Refused(why) => CheckAnswer::Refused(why),
         ReadAnswer::Accepted(shape) => {
-            if !is_rising(columns, shape.columns) {
+            if !dutyfile::columns_rise(columns, shape.columns) {
                 return CheckAnswer::Refused(Refusal::Offered);
             }
             let covered = cover_counts(file, columns);

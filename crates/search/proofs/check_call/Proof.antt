@@ -1,4 +1,5 @@
 -- Each way out of the tests is one way out of the definition.
+use borrow.Author.Needs.{needs}
 use borrow.Author.Tests.{le-leb, lt-leb}
 use Rattle.refusals.specs.Refusals.{faultOf, ask, _then_}
 use Rattle.search.specs.Searching.{callFault}
@@ -17,9 +18,15 @@ returns-3 : tie.Need-returns-3
 unfolding faultOf callFault ask _then_
 returns-3 c = simp (callFault, le-leb _ _ (c .before .before .if1 .left), le-leb _ _ (c .before .if2 .left), lt-leb _ _ (c .if3 .taken))
 
+check-requests-requires : tie.Need-check-requests-requires
+check-requests-requires c κs = search needs
+
 returns-4 : tie.Need-returns-4
-unfolding faultOf callFault ask _then_
-returns-4 c = simp (callFault, le-leb _ _ (c .before .before .if1 .left), le-leb _ _ (c .before .if2 .left), le-leb _ _ (c .if3 .left))
+unfolding callFault ask _then_
+returns-4 c =
+    let f = c .before in
+    rw (c .check-requests .ensures)
+    (simp (callFault, le-leb _ _ (f .before .before .if1 .left), le-leb _ _ (f .before .if2 .left), le-leb _ _ (f .if3 .left)))
 
 pub check-call-spec : {M : Type 1} → statement M
-check-call-spec = tie.close (tie.spec returns returns-2 returns-3 returns-4)
+check-call-spec = tie.close (tie.spec returns returns-2 returns-3 check-requests-requires returns-4)

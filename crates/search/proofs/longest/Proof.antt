@@ -1,7 +1,7 @@
 -- The clauses for the longest duty are those of the call.
 use borrow.Author.Needs.{needs}
 use Rattle.rules.specs.Goals.{searchFor, valueFor}
-use Rattle.search.specs.Longest.{longestAnswer, longestSearching, longestList}
+use Rattle.search.specs.Requests.{longestAnswerWith, longestSearchingWith, longestListWith}
 use Rattle.search.specs.Goals.{answerFor, searchingFor, listFor}
 use Rattle.search.proofs.longest.Statement.{statement}
 use Rattle.search.proofs.longest.Tie as tie
@@ -13,7 +13,7 @@ same-length : tie.Need-same-length
 same-length c = search needs
 
 returns : tie.Need-returns
-unfolding searchFor valueFor answerFor searchingFor listFor longestAnswer longestSearching longestList
+unfolding searchFor valueFor answerFor searchingFor listFor longestAnswerWith longestSearchingWith longestListWith
 returns c = c .before .before .search-for .ensures
 
 pub longest-spec : {M : Type 1} → statement M

@@ -1,7 +1,7 @@
 -- The clauses for the sum are those of the call.
 use borrow.Author.Needs.{needs}
 use Rattle.rules.specs.Goals.{searchFor, valueFor}
-use Rattle.search.specs.Searching.{fileAnswer, searching, planList}
+use Rattle.search.specs.Requests.{answerWith, searchingWith, planListWith}
 use Rattle.search.specs.Goals.{answerFor, searchingFor, listFor}
 use Rattle.search.proofs.search.Statement.{statement}
 use Rattle.search.proofs.search.Tie as tie
@@ -13,7 +13,7 @@ same-length : tie.Need-same-length
 same-length c = search needs
 
 returns : tie.Need-returns
-unfolding searchFor valueFor answerFor searchingFor listFor fileAnswer searching planList
+unfolding searchFor valueFor answerFor searchingFor listFor answerWith searchingWith planListWith
 returns c = c .before .before .search-for .ensures
 
 pub search-spec : {M : Type 1} → statement M

@@ -1,10 +1,11 @@
--- A file is read, then the plan list's room and the node limit are tested; only where all pass is the matrix searched and is a plan written.
+-- A file is read, then the call's tests are made; only where all pass is the matrix searched and is a plan written.
 use mathlib.Core.Path.{refl, sym}
 use Rattle.refusals.specs.Refusals.{filled}
 use Rattle.refusals.proofs.Laws.{failed, passed}
 use Rattle.lists.specs.Loaded.{Loaded}
 use Rattle.answer.specs.Answer.{searchOutcome}
-use Rattle.search.proofs.Called.{refused-demand, refused-file, refused-call, searchable, plan-fits, given-answer, given-plan, given-demand}
+use Rattle.search.proofs.Called.{refused-demand, refused-file, refused-call, begins, searchable, plan-fits, given-answer}
+use Rattle.search.proofs.Called.{given-plan, given-demand}
 use Rattle.lists.proofs.Read.{file-refused}
 use borrow.Author.Needs.{needs}
 use Rattle.search.proofs.search_for.Statement.{statement}
@@ -13,7 +14,7 @@ use Rattle.search.proofs.search_for.Tie as tie
 -- the file's matrix and costs
 loaded : (c : tie.After-found2) →
     let k = c .before .before in
-    Loaded (k .before .before .before .before .before .before .before .args .file .now) (c .found2 .given .0 .0) (k .read-matrix .last .1 .0) (k .read-matrix .last .1 .1 .0)
+    Loaded (k .before .before .before .before .before .before .before .before .before .args .file .now) (c .found2 .given .0 .0) (k .read-matrix .last .1 .0) (k .read-matrix .last .1 .1 .0)
 loaded c = c .before .before .read-matrix .ensures .1 .1 .1 _ (c .found2 .given .1)
 
 no-cells-requires : tie.Need-no-cells-requires
@@ -46,35 +47,50 @@ slice-aggregate-root-node c = sym (loaded (c .before .before .before .before .be
 root-node-requires : tie.Need-root-node-requires
 root-node-requires c κs = loaded (c .before .before .before .before .before) .kept
 
+slice-aggregate-begin : tie.Need-slice-aggregate-begin
+slice-aggregate-begin c = sym (loaded (c .before .before .before .before .before .before .before) .long)
+
+begin-requires : tie.Need-begin-requires
+begin-requires c κs =
+    let n = c .before in
+    let t = n .before .before in
+    let l = t .before .before in
+    begins _ _ _ _ _ _ _ _ (loaded (l .before .before)) (passed (l .check-call .ensures) (t .enum-told .given .1)) _ (n .root-node .ensures)
+
 slice-aggregate-search-from : tie.Need-slice-aggregate-search-from
-slice-aggregate-search-from c = sym (loaded (c .before .before .before .before .before .before .before) .long)
+slice-aggregate-search-from c =
+    sym (loaded (c .before .before .before .before .before .before .before .before .before) .long)
 
 search-from-requires : tie.Need-search-from-requires
 search-from-requires c κs =
-    let t = c .before .before .before in
+    let b = c .before in
+    let n = b .before .before in
+    let t = n .before .before in
     let l = t .before .before in
-    searchable _ _ _ _ _ _ _ (loaded (l .before .before)) (passed (l .check-call .ensures) (t .enum-told .given .1)) _ (c .before .root-node .ensures)
+    searchable _ _ _ _ _ _ _ _ (loaded (l .before .before)) (passed (l .check-call .ensures) (t .enum-told .given .1)) _ (n .root-node .ensures)
+    _ (b .begin .ensures)
 
 give-requires : tie.Need-give-requires
 give-requires c κs =
     let d = c .before in
-    let n = d .before .before in
+    let b = d .before .before in
+    let n = b .before .before in
     let t = n .before .before in
     let l = t .before .before in
-    plan-fits _ _ _ _ _ _ _ (loaded (l .before .before)) (passed (l .check-call .ensures) (t .enum-told .given .1)) _ (n .root-node .ensures) _
-    (d .search-from .ensures)
+    plan-fits _ _ _ _ _ _ _ _ (loaded (l .before .before)) (passed (l .check-call .ensures) (t .enum-told .given .1)) _ (n .root-node .ensures)
+    _ (b .begin .ensures) _ (d .search-from .ensures)
 
 returns : tie.Need-returns
 unfolding searchOutcome filled
 returns c =
     let f = c .before in
-    (refused-file _ _ _ _ _ (file-refused _ _ (f .before .before .read-matrix .ensures .0) _ (f .found .given .1)), (refl, refused-demand _ _ _ _ _))
+    (refused-file _ _ _ _ _ _ (file-refused _ _ (f .before .before .read-matrix .ensures .0) _ (f .found .given .1)), (refl, refused-demand _ _ _ _ _ _))
 
 returns-2 : tie.Need-returns-2
 unfolding searchOutcome filled
 returns-2 c =
     let l = c .before .before .before in
-    (refused-call _ _ _ _ _ _ _ (loaded (l .before .before)) _ (failed (l .check-call .ensures) _ (c .before .test .given .1)), (refl, refused-demand _ _ _ _ _))
+    (refused-call _ _ _ _ _ _ _ _ (loaded (l .before .before)) _ (failed (l .check-call .ensures) _ (c .before .test .given .1)), (refl, refused-demand _ _ _ _ _ _))
 
 same-length : tie.Need-same-length
 same-length c = search needs
@@ -83,17 +99,19 @@ returns-3 : tie.Need-returns-3
 returns-3 c =
     let g = c .before .before in
     let d = g .before .before in
-    let n = d .before .before in
+    let b = d .before .before in
+    let n = b .before .before in
     let t = n .before .before in
     let l = t .before .before in
     let k = loaded (l .before .before) in
     let p = passed (l .check-call .ensures) (t .enum-told .given .1) in
     let r = n .root-node .ensures in
+    let i = b .begin .ensures in
     let x = d .search-from .result in
     let e = d .search-from .ensures in
     let h = g .give .ensures in (
-      given-answer _ _ _ _ _ _ _ k p _ r x e _ (h .0),
-      (given-plan _ _ _ _ _ _ _ k p _ r x e _ (h .0) _ _ (h .1 .0), given-demand _ _ _ _ _ _ _ k p _ r x e _ _ (h .1 .1)),
+      given-answer _ _ _ _ _ _ _ _ k p _ r _ i x e _ (h .0),
+      (given-plan _ _ _ _ _ _ _ _ k p _ r _ i x e _ (h .0) _ _ (h .1 .0), given-demand _ _ _ _ _ _ _ _ k p _ r _ i x e _ _ (h .1 .1)),
     )
 
 pub search-for-spec : {M : Type 1} → statement M
@@ -110,6 +128,8 @@ search-for-spec =
     enum-told
     slice-aggregate-root-node
     root-node-requires
+    slice-aggregate-begin
+    begin-requires
     slice-aggregate-search-from
     search-from-requires
     give-requires

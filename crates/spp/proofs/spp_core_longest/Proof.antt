@@ -9,7 +9,7 @@ longest-requires : tie.Need-longest-requires
 longest-requires c κs = search needs
 
 flat-answer-requires : tie.Need-flat-answer-requires
-flat-answer-requires c κs = rw (c .before .before .longest .ensures .0) (longest-fits _ _ _)
+flat-answer-requires c κs = rw (c .before .before .longest .ensures .0) (longest-fits _ _ _ _)
 
 same-length : tie.Need-same-length
 same-length c = search needs

@@ -9,7 +9,7 @@ search-requires : tie.Need-search-requires
 search-requires c κs = search needs
 
 flat-answer-requires : tie.Need-flat-answer-requires
-flat-answer-requires c κs = rw (c .before .before .search .ensures .0) (searching-fits _ _ _)
+flat-answer-requires c κs = rw (c .before .before .search .ensures .0) (searching-fits _ _ _ _)
 
 same-length : tie.Need-same-length
 same-length c = search needs

@@ -26,8 +26,8 @@ enum-known-found c = search needs
 enum-known-found-2 : tie.Need-enum-known-found-2
 enum-known-found-2 c = search needs
 
-is-rising-requires : tie.Need-is-rising-requires
-is-rising-requires c κs = search needs
+columns-rise-requires : tie.Need-columns-rise-requires
+columns-rise-requires c κs = search needs
 
 -- the file is accepted with this shape
 found : (c : tie.After-found2) → let s = c .before .before .before .before .before .args .file .now in
@@ -44,11 +44,11 @@ unfolding shape
 columns-is c = ap (λ (h : Shape). h .columns) (sym (found c .1))
 
 -- what the test of the list says
-rises : (c : tie.After-is-rising) → let a = c .before .before .before .before .before .before .before .args in
-    c .is-rising .result ≡ rising 0 (columnsIn (a .file .now)) (a .columns .now)
+rises : (c : tie.After-columns-rise) → let a = c .before .before .before .before .before .before .before .args in
+    c .columns-rise .result ≡ rising 0 (columnsIn (a .file .now)) (a .columns .now)
 rises c =
     let a = c .before .before .before .before .before .before .before .args in
-    c .is-rising .ensures ∙ ap (λ n. rising 0 n (a .columns .now)) (columns-is (c .before .before))
+    c .columns-rise .ensures ∙ ap (λ n. rising 0 n (a .columns .now)) (columns-is (c .before .before))
 
 -- both pass
 ready : (c : tie.Else1) → let a = c .before .before .before .before .before .before .before .before .args in
@@ -88,7 +88,7 @@ check-plan-spec =
     examine-requires
     enum-known-found
     enum-known-found-2
-    is-rising-requires
+    columns-rise-requires
     returns
     cover-counts-requires
     total-cost-requires

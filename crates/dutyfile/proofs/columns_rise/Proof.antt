@@ -3,10 +3,10 @@ use mathlib.Core.Path.{_≡_, refl, sym, _∙_}
 use Prim.Native.Nat.{_≤_, _-_}
 use native.Mathlib.Omega.{arith}
 use lib.ListN.{length, drop}
 use Rattle.dutyfile.specs.Faults.{rising}
 use Rattle.dutyfile.proofs.Rising.{rising-low, rising-high, rising-step, rising-end}
-use Rattle.verify.proofs.is_rising.Statement.{statement}
-use Rattle.verify.proofs.is_rising.Tie as tie
+use Rattle.dutyfile.proofs.columns_rise.Statement.{statement}
+use Rattle.dutyfile.proofs.columns_rise.Tie as tie
 
 abbrev Inv-loop : tie.InvT-loop
 Inv-loop columns most last₀ i₀ last i = (i ≤ length columns) × (rising last most (drop i columns) ≡ rising 0 most columns)
@@ -50,8 +50,8 @@ loop-again c =
 returns-3 : tie.Need-returns-3 Inv-loop μ-loop
 returns-3 c = sym (sym (c .before .loop .inv .1) ∙ rising-end _ _ _ _ (c .loop-test .left))
 
-pub is-rising-spec : {M : Type 1} → statement M
-is-rising-spec =
+pub columns-rise-spec : {M : Type 1} → statement M
+columns-rise-spec =
     tie.close
     (tie.spec
     Inv-loop

@@ -1,0 +1,92 @@
+-- Worked cases of what a desk asks besides (02, P2), with lists of columns numbered from 1: example 4, whose plans are 3 6 9 at 42, 2 5 10
+-- at 46 and 5 7 8 at 49, and small instances that one rule decides.
+use mathlib.Core.Path.{_≡_, refl}
+use mathlib.Core.List.{List, [], _∷_}
+use Prim.Native.Nat.{ℕ}
+use Rattle.node.specs.Lists.{keep, from, member, leastFrom, least, pick, isEmpty, first}
+use Rattle.node.specs.Matrix.{Matrix, covers, meets, Instance}
+use Rattle.node.specs.Node.{freeColumns, freeOf, openRows, taken, root, take, leave}
+use Rattle.rules.specs.Force.{rowsWith, askedBy, asked, forceOn, forceBy, force}
+use Rattle.rules.specs.Reduce.{leastOf, candidates, candidate, byOrder, precedes, rowFirst, lower, reduceOn, reduceBy, reduce}
+use Rattle.rules.specs.Search.{plan, reaches, improve, second, enter, walk, after, Answer, best, none, stopped, finished}
+use Rattle.rules.specs.Search.{answerOf}
+use Rattle.rules.specs.Tree.{Variant, sum, penaltyOf, plus, aboveP, sameP, withoutBound, zeros, dearer, penalty, rowBefore, sharing}
+use Rattle.rules.specs.Tree.{columnBefore, branchOn, reduced, living, visit, fullTree, rootBound, answer}
+use Rattle.rules.specs.Files.{file, numbered, usual, example4}
+use Rattle.rules.specs.Longest.{largest, raised, longest}
+use Rattle.rules.specs.Agreed.{without, withAll, agreedStart}
+use Rattle.rules.specs.Requests.{asking, begun}
+
+abbrev with : (Matrix → Variant) → Instance → ℕ → List ℕ → List ℕ → Answer
+with search p limit agreed absent =
+    let m : Matrix = p .matrix in
+    numbered (answer (search m) m (begun (search m) m (asking agreed absent) (root m (p .costs))) limit)
+
+abbrev solvedWith : Instance → ℕ → List ℕ → List ℕ → Answer
+solvedWith = with sum
+
+abbrev foundWith : Instance → ℕ → List ℕ → List ℕ → Answer
+foundWith = with longest
+
+-- column 1 is taken before forcing, which would take it too; were it taken after, it would not be free then
+abbrev oneColumn : Instance
+oneColumn = file 1 (5 ∷ []) ((1 ∷ []) ∷ [])
+
+-- the cost of agreed column 1 counts in the bound, and for the longest duty gives it; absent column 3 does not
+abbrev twoEach : Instance
+twoEach = file 2 (9 ∷ 1 ∷ 2 ∷ 3 ∷ []) ((1 ∷ []) ∷ (1 ∷ []) ∷ (2 ∷ []) ∷ (2 ∷ []) ∷ [])
+
+requestCases :
+    -- an agreed column that costs more than best, and the same within two nodes
+    (solvedWith example4 usual (5 ∷ []) []
+    ∷ foundWith example4 usual (5 ∷ []) []
+    ∷ solvedWith example4 2 (5 ∷ []) []
+    -- an absent column that best had
+    ∷ solvedWith example4 usual [] (6 ∷ [])
+    ∷ foundWith example4 usual [] (6 ∷ [])
+    -- two agreed columns that share row 1
+    ∷ solvedWith example4 usual (3 ∷ 5 ∷ []) []
+    ∷ foundWith example4 usual (3 ∷ 5 ∷ []) []
+    -- a column in both lists
+    ∷ solvedWith example4 usual (6 ∷ []) (6 ∷ [])
+    ∷ foundWith example4 usual (6 ∷ []) (6 ∷ [])
+    -- agreed columns that leave row 1 without a free one
+    ∷ solvedWith example4 usual (6 ∷ 10 ∷ []) []
+    ∷ foundWith example4 usual (6 ∷ 10 ∷ []) []
+    -- a root that is a plan after the agreed ones, the cheapest and the dearest
+    ∷ solvedWith example4 1 (3 ∷ 6 ∷ 9 ∷ []) []
+    ∷ solvedWith example4 1 (5 ∷ 7 ∷ 8 ∷ []) []
+    ∷ foundWith example4 1 (5 ∷ 7 ∷ 8 ∷ []) []
+    -- the small instances
+    ∷ solvedWith oneColumn usual (1 ∷ []) []
+    ∷ solvedWith oneColumn usual [] (1 ∷ [])
+    ∷ solvedWith twoEach usual (1 ∷ []) []
+    ∷ foundWith twoEach usual (1 ∷ []) []
+    ∷ foundWith twoEach usual (2 ∷ []) (3 ∷ [])
+    ∷ [])
+    ≡
+    (best 46 42 4 (2 ∷ 5 ∷ 10 ∷ [])
+    ∷ best 22 18 4 (2 ∷ 5 ∷ 10 ∷ [])
+    ∷ stopped (plan 49 (5 ∷ 7 ∷ 8 ∷ [])) 42 2
+    ∷ best 46 36 5 (2 ∷ 5 ∷ 10 ∷ [])
+    ∷ best 22 18 5 (2 ∷ 5 ∷ 10 ∷ [])
+    ∷ none 1
+    ∷ none 1
+    ∷ none 1
+    ∷ none 1
+    ∷ none 1
+    ∷ none 1
+    ∷ best 42 42 1 (3 ∷ 6 ∷ 9 ∷ [])
+    ∷ best 49 49 1 (5 ∷ 7 ∷ 8 ∷ [])
+    ∷ best 24 24 1 (5 ∷ 7 ∷ 8 ∷ [])
+    ∷ best 5 5 1 (1 ∷ [])
+    ∷ none 1
+    ∷ best 11 11 2 (1 ∷ 3 ∷ [])
+    ∷ best 9 9 2 (1 ∷ 3 ∷ [])
+    ∷ best 3 3 1 (2 ∷ 4 ∷ [])
+    ∷ [])
+unfolding numbered keep from member leastFrom least pick isEmpty first covers meets freeColumns freeOf openRows taken root take leave
+    leastOf candidates candidate byOrder precedes rowFirst lower reduceOn reduceBy reduce rowsWith askedBy asked forceOn forceBy force
+    reaches improve second enter walk finished after answerOf zeros dearer penaltyOf penalty aboveP sameP rowBefore sharing columnBefore
+    plus withoutBound branchOn reduced living visit fullTree rootBound answer largest raised without withAll agreedStart begun
+requestCases = refl

@@ -1,0 +1,33 @@
+-- What a desk asks of a plan besides (02, from P2 on): where the search then starts, and which choices count.
+use mathlib.Core.Bool.{Bool}
+use mathlib.Core.List.{List, [], map}
+use Prim.Native.Nat.{ℕ, _-_}
+use Rattle.node.specs.declared.Node.{Node}
+use Rattle.node.specs.Matrix.{Matrix, IsPlan}
+use Rattle.rules.specs.declared.Forced.{Forced}
+use Rattle.rules.specs.Tree.{Variant}
+use Rattle.rules.specs.Agreed.{agreedStart, Agreeing}
+
+-- the lists as they are lent, with columns numbered from 1
+pub record Requests : Type 0 where
+  pub agreed : List ℕ
+  pub absent : List ℕ
+
+abbrev pub asking : List ℕ → List ℕ → Requests
+asking agreed absent = record { agreed = agreed; absent = absent }
+
+-- nothing is asked
+abbrev pub unasked : Requests
+unasked = asking [] []
+
+-- the columns with these numbers
+abbrev pub columnsOf : List ℕ → List ℕ
+columnsOf = map (λ j. j - 1)
+
+-- the start of a search, from the root
+unfoldable pub begun : Variant → Matrix → Requests → Node → Forced
+begun o p q = agreedStart (o .join) p (columnsOf (q .agreed)) (columnsOf (q .absent))
+
+-- the choices that count: the plans that hold every agreed column and no absent one
+abbrev pub Granted : Matrix → Requests → (ℕ → Bool) → Type 0
+Granted p q = Agreeing (IsPlan p) (columnsOf (q .agreed)) (columnsOf (q .absent))
