@@ -2,8 +2,8 @@
  * Crew plans from a duty file: the C interface of the engine.
  *
  * Link with target/staticlib/libspp.a, which `rt staticlib spp` builds. Call the functions at the end of this file, spp_read to
- * spp_longest. They refuse lists of which any two overlap, be they only read, and null pointers, before the engine is entered; the
- * functions spp_core_.. are the engine itself, which takes for granted that no two lists overlap and that no pointer is null.
+ * spp_longest. They refuse lists of which any two overlap, two that are only read among them, and null pointers, before the engine is
+ * entered; the functions spp_core_.. are the engine itself, which takes for granted that no two lists overlap and that no pointer is null.
  *
  * A row is a sailing, a column a duty; both are numbered from 1. A list is lent as a pointer and the number of its places. A call that
  * refuses writes to no list. Places beyond what is filled keep their contents. Fields that a case does not use are 0.
@@ -256,7 +256,7 @@ static inline struct spp_reduced spp_reduce(const uint8_t *file, size_t file_cou
                            order ? order : &no_row, order_count);
 }
 
-/* A search by the engine's call, with its lists guarded: the struct counts as a list of one place. */
+/* A search by the engine's call, with its lists guarded, and the struct as a list of one place. */
 static inline struct spp_answer spp_guarded_search(spp_core_call call, const uint8_t *file, size_t file_count,
                                                    uint32_t node_limit, const struct spp_lists *lists, uint16_t *plan,
                                                    size_t plan_count) {
@@ -279,7 +279,8 @@ static inline struct spp_answer spp_guarded_search(spp_core_call call, const uin
 
 /*
  * Searches for a plan with the least sum of costs that holds every agreed column and no absent one, and enters at most `node_limit`
- * nodes, 1 to 1,000,000: fills in the plan's columns, rising. The plan list must hold as many places as there are rows.
+ * nodes, 1 to 1,000,000: fills in the plan's columns, rising. The plan list must hold as many places as there are rows. The struct is
+ * lent as the lists are: it must not be null nor share a byte with one of them.
  */
 static inline struct spp_answer spp_search_with(const uint8_t *file, size_t file_count, uint32_t node_limit,
                                                 const struct spp_lists *lists, uint16_t *plan, size_t plan_count) {
