@@ -3,7 +3,8 @@
  *
  * Link with target/staticlib/libspp.a, which `rt staticlib spp` builds. Call the functions at the end of this file, spp_read to
  * spp_longest. They refuse lists of which any two overlap, two that are only read among them, and null pointers, before the engine is
- * entered; the functions spp_core_.. are the engine itself, which takes for granted that no two lists overlap and that no pointer is null.
+ * entered; the functions spp_core_.. are the engine itself, which takes for granted that no two lists overlap and that no pointer is
+ * null.
  *
  * A row is a sailing, a column a duty; both are numbered from 1. A list is lent as a pointer and the number of its places. A call that
  * refuses writes to no list. Places beyond what is filled keep their contents. Fields that a case does not use are 0.

@@ -20,10 +20,9 @@ fn all_rows(rows: u16) -> u64 {
 /// row of an agreed column is left that column alone, and any set of these columns that covers each row holds every agreed one. Of two
 /// agreed ones that share a row neither is left, and nothing covers that row.
 fn left_by(requests: Requests, sets: &[u64]) -> Vec<usize> {
-    let is_agreed_apart =
-        |column: usize, agreed: u16| column + 1 == agreed as usize || sets[column] & sets[agreed as usize - 1] == 0;
+    let is_apart = |column: usize, agreed: u16| column + 1 == agreed as usize || sets[column] & sets[agreed as usize - 1] == 0;
     let is_left = |&column: &usize| {
-        !requests.absent.contains(&(column as u16 + 1)) && requests.agreed.iter().all(|&agreed| is_agreed_apart(column, agreed))
+        !requests.absent.contains(&(column as u16 + 1)) && requests.agreed.iter().all(|&agreed| is_apart(column, agreed))
     };
     (0..sets.len()).filter(is_left).collect()
 }
