@@ -30,7 +30,7 @@ pub fn stopped_with(price: u64, bound: u64, nodes: u32, columns: u32) -> Answer 
     Answer { outcome: STOPPED, has_plan: 1, columns, price, ..stopped(bound, nodes) }
 }
 
-fn one_duty() -> Columns {
+pub fn one_duty() -> Columns {
     columns(1, &[(&[1], 5)])
 }
 

@@ -6,7 +6,8 @@ use spp_tests::files::{self, columns, Columns};
 use spp_tests::goal::Goal::{self, Longest, Sum};
 use spp_tests::requests::Requests;
 
-use super::worked::{best, none, stated_search, stopped, stopped_with, triangle, twice, two_or_one, Search, LIMIT};
+use super::worked::{best, none, stated_search, stopped, stopped_with};
+use super::worked::{one_duty, triangle, twice, two_or_one, Search, LIMIT};
 use crate::report::Report;
 
 type Numbers = &'static [u16];
@@ -83,6 +84,9 @@ fn small_files() -> Vec<Search> {
         Search { goal, name, columns, requests, limit: LIMIT, answer, plan }
     };
     vec![
+        case(Sum, "the only duty agreed", one_duty(), &[1], &[], best(5, 5, 1, 1), &[1]),
+        case(Longest, "the only duty agreed", one_duty(), &[1], &[], best(5, 5, 1, 1), &[1]),
+        case(Sum, "the only duty absent", one_duty(), &[], &[1], none(1), &[]),
         case(Sum, "the dear duty agreed", two_or_one(), &[1], &[], best(9, 9, 1, 1), &[1]),
         case(Longest, "the dear duty agreed", two_or_one(), &[1], &[], best(9, 9, 1, 1), &[1]),
         case(Sum, "one of two agreed", two_or_one(), &[3], &[], best(8, 8, 1, 2), &[2, 3]),
