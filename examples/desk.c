@@ -1,9 +1,10 @@
 /*
  * A desk plug-in: reads a duty file, searches for the cheapest plan, or for the one whose longest duty is cheapest, checks it and prints
- * the roster.
+ * the roster. The numbers after `agreed` are those of duties that must be in the plan, and after `absent` of duties that must not be; both
+ * rise.
  *
  *     gcc -Iinclude examples/desk.c target/staticlib/libspp.a -o desk
- *     ./desk FILE [ALLOWANCE [longest]]
+ *     ./desk FILE [ALLOWANCE [sum|longest [agreed N..] [absent N..]]]
  *
  * Exit status: 0 with a roster, 1 if there is no plan to show, 2 with an error.
  */
@@ -24,6 +25,12 @@ struct duties {
     struct spp_shape shape;
 };
 
+/* Duty numbers. A list that is longer than this cannot rise, and is refused by its first places. */
+struct numbers {
+    uint16_t list[SPP_MOST_COLUMNS + 1];
+    size_t count;
+};
+
 static const char *const reasons[] = {
     "accepted",
     "not a duty file (it has under 8 bytes or does not begin with SPP1)",
@@ -39,6 +46,8 @@ static const char *const reasons[] = {
     "the allowance is not from 1 to 1,000,000",
     "a duty number is out of range or not rising",
     "the lists to write disagree in length",
+    "an agreed duty number is out of range or not rising",
+    "an absent duty number is out of range or not rising",
 };
 
 static const char *reason(uint32_t refusal) {
@@ -118,10 +127,10 @@ static int print_roster(const struct duties *duties, struct spp_answer answer, c
     return 0;
 }
 
-static int solve(const struct duties *duties, uint32_t node_limit, int longest) {
+static int solve(const struct duties *duties, uint32_t node_limit, int longest, const struct spp_lists *lists) {
     uint16_t plan[SPP_MOST_ROWS];
-    struct spp_answer answer =
-        (longest ? spp_longest : spp_search)(duties->file, duties->length, node_limit, plan, SPP_MOST_ROWS);
+    struct spp_answer answer = (longest ? spp_longest_with : spp_search_with)(duties->file, duties->length, node_limit,
+                                                                              lists, plan, SPP_MOST_ROWS);
     if (answer.refusal) {
         return refused("the search", answer.refusal);
     }
@@ -129,7 +138,9 @@ static int solve(const struct duties *duties, uint32_t node_limit, int longest) 
         return print_roster(duties, answer, plan, longest);
     }
     if (answer.outcome == SPP_NONE) {
-        printf("no roster: no plan exists, %u nodes\n", (unsigned)answer.nodes);
+        printf("no roster: no plan %s, %u nodes\n",
+               lists->agreed_count || lists->absent_count ? "has every agreed duty and no absent one" : "exists",
+               (unsigned)answer.nodes);
     } else {
         printf("no roster: stopped without a plan, floor %llu, %u nodes\n", (unsigned long long)answer.bound,
                (unsigned)answer.nodes);
@@ -137,24 +148,61 @@ static int solve(const struct duties *duties, uint32_t node_limit, int longest) 
     return 1;
 }
 
-/* The allowance (the node limit) as a number; 0, which the search refuses, for any other text. */
-static uint32_t limit_of(const char *text) {
+/* A text of digits as a number; `other` for any other text, and for a number above `most`. */
+static unsigned long number_of(const char *text, unsigned long most, unsigned long other) {
     char *end;
     unsigned long number = strtoul(text, &end, 10);
-    return *text < '0' || *text > '9' || *end || number > SPP_MOST_NODES ? 0 : (uint32_t)number;
+    return *text < '0' || *text > '9' || *end || number > most ? other : number;
+}
+
+static int usage(void) {
+    fprintf(stderr, "usage: desk FILE [ALLOWANCE [sum|longest [agreed N..] [absent N..]]]\n");
+    return 2;
+}
+
+/* Reads the words after the goal, up to a null pointer: numbers after `agreed` or `absent` are put into that list. */
+static int read_lists(char **words, struct numbers *agreed, struct numbers *absent) {
+    struct numbers *numbers = NULL;
+    for (; *words; words++) {
+        unsigned long number = number_of(*words, UINT16_MAX, UINT16_MAX + 1ul);
+        if (!strcmp(*words, "agreed")) {
+            numbers = agreed;
+        } else if (!strcmp(*words, "absent")) {
+            numbers = absent;
+        } else if (!numbers) {
+            return usage();
+        } else if (number > UINT16_MAX) {
+            fprintf(stderr, "desk: %s is not a duty number\n", *words);
+            return 2;
+        } else if (numbers->count <= SPP_MOST_COLUMNS) {
+            numbers->list[numbers->count++] = (uint16_t)number;
+        }
+    }
+    return 0;
 }
 
 int main(int count, char **words) {
     static struct duties duties;
+    static struct numbers agreed, absent;
+    struct spp_lists lists;
     uint32_t node_limit = SPP_MOST_NODES;
-    int longest = count == 4, failed;
-    if (count < 2 || count > 4 || (longest && strcmp(words[3], "longest"))) {
-        fprintf(stderr, "usage: desk FILE [ALLOWANCE [longest]]\n");
-        return 2;
+    int longest = count > 3 && !strcmp(words[3], "longest"), failed;
+    if (count < 2 || (count > 3 && !longest && strcmp(words[3], "sum"))) {
+        return usage();
     }
     if (count > 2) {
-        node_limit = limit_of(words[2]);
+        /* The search refuses 0. */
+        node_limit = (uint32_t)number_of(words[2], SPP_MOST_NODES, 0);
     }
-    failed = load(words[1], &duties);
-    return failed ? failed : solve(&duties, node_limit, longest);
+    failed = count > 4 ? read_lists(words + 4, &agreed, &absent) : 0;
+    failed = failed ? failed : load(words[1], &duties);
+    if (failed) {
+        return failed;
+    }
+    memset(&lists, 0, sizeof lists);
+    lists.agreed = agreed.list;
+    lists.agreed_count = agreed.count;
+    lists.absent = absent.list;
+    lists.absent_count = absent.count;
+    return solve(&duties, node_limit, longest, &lists);
 }

@@ -2,8 +2,9 @@
  * Crew plans from a duty file: the C interface of the engine.
  *
  * Link with target/staticlib/libspp.a, which `rt staticlib spp` builds. Call the functions at the end of this file, spp_read to
- * spp_longest. They refuse lists of which any two overlap, and null pointers, before the engine is entered; the functions spp_core_..
- * are the engine itself, which takes for granted that no two lists overlap and that no pointer is null.
+ * spp_longest. They refuse lists of which any two overlap, two that are only read among them, and null pointers, before the engine is
+ * entered; the functions spp_core_.. are the engine itself, which takes for granted that no two lists overlap and that no pointer is
+ * null.
  *
  * A row is a sailing, a column a duty; both are numbered from 1. A list is lent as a pointer and the number of its places. A call that
  * refuses writes to no list. Places beyond what is filled keep their contents. Fields that a case does not use are 0.
@@ -41,12 +42,14 @@ extern "C" {
 #define SPP_BAD_LIMIT 11     /* the node limit is out of range */
 #define SPP_BAD_COLUMN 12    /* an offered column is out of range, or the offered list does not rise */
 #define SPP_UNEQUAL_LISTS 13 /* the writer's lists disagree in length */
+#define SPP_BAD_AGREED 14    /* an agreed column is out of range, or the agreed list does not rise */
+#define SPP_BAD_ABSENT 15    /* an absent column is out of range, or the absent list does not rise */
 #define SPP_OVERLAP 100      /* two lent lists overlap, or a list reaches beyond the address space */
-#define SPP_NULL 101         /* a null pointer was lent with a number of places above 0 */
+#define SPP_NULL 101         /* a null pointer was lent with a number of places above 0, or for a struct */
 
-/* Values of `outcome`; 0 with a refusal. */
+/* Values of `outcome`; 0 with a refusal. Plans are those that hold every agreed column and no absent one (struct spp_lists). */
 #define SPP_BEST 1    /* no plan has a lower price than the one shown */
-#define SPP_NONE 2    /* the file has no plan */
+#define SPP_NONE 2    /* there is no plan */
 #define SPP_STOPPED 3 /* the node limit was reached */
 
 /* What the reader found. */
@@ -79,7 +82,24 @@ struct spp_reduced {
     uint64_t bound;   /* the lower bound (floor): no plan costs less */
 };
 
-/* What a search answers. A plan's price is the sum of its costs for spp_search, and the largest of its costs for spp_longest. */
+/*
+ * Columns that must be in the plan, and columns that must not be. Each list rises and may be empty. A struct of zeros means no lists.
+ * Fields may be added at the end, so set all of it to zeros first:
+ *
+ *     struct spp_lists lists;
+ *     memset(&lists, 0, sizeof lists);
+ */
+struct spp_lists {
+    const uint16_t *agreed; /* columns that must be in the plan */
+    size_t agreed_count;
+    const uint16_t *absent; /* columns that must not be in the plan */
+    size_t absent_count;
+};
+
+/*
+ * What a search answers. A plan's price is the sum of its costs for spp_search and spp_search_with, and the largest of its costs for
+ * spp_longest and spp_longest_with.
+ */
 struct spp_answer {
     uint32_t refusal;  /* 0, or why nothing was searched */
     uint32_t outcome;  /* SPP_BEST, SPP_NONE or SPP_STOPPED */
@@ -99,14 +119,17 @@ struct spp_written spp_core_write(uint16_t rows, const uint32_t *costs, size_t c
 struct spp_checked spp_core_check(const uint8_t *file, size_t file_count, const uint16_t *columns, size_t column_count);
 struct spp_reduced spp_core_reduce(const uint8_t *file, size_t file_count, uint32_t *reduced, size_t reduced_count,
                                    uint8_t *order, size_t order_count);
-struct spp_answer spp_core_search(const uint8_t *file, size_t file_count, uint32_t node_limit, uint16_t *plan,
+struct spp_answer spp_core_search(const uint8_t *file, size_t file_count, uint32_t node_limit, const uint16_t *agreed,
+                                  size_t agreed_count, const uint16_t *absent, size_t absent_count, uint16_t *plan,
                                   size_t plan_count);
-struct spp_answer spp_core_longest(const uint8_t *file, size_t file_count, uint32_t node_limit, uint16_t *plan,
+struct spp_answer spp_core_longest(const uint8_t *file, size_t file_count, uint32_t node_limit, const uint16_t *agreed,
+                                   size_t agreed_count, const uint16_t *absent, size_t absent_count, uint16_t *plan,
                                    size_t plan_count);
 
 /* One of the engine's two searches. */
-typedef struct spp_answer (*spp_core_call)(const uint8_t *file, size_t file_count, uint32_t node_limit, uint16_t *plan,
-                                           size_t plan_count);
+typedef struct spp_answer (*spp_core_call)(const uint8_t *file, size_t file_count, uint32_t node_limit,
+                                           const uint16_t *agreed, size_t agreed_count, const uint16_t *absent,
+                                           size_t absent_count, uint16_t *plan, size_t plan_count);
 
 #ifdef __cplusplus
 }
@@ -234,33 +257,55 @@ static inline struct spp_reduced spp_reduce(const uint8_t *file, size_t file_cou
                            order ? order : &no_row, order_count);
 }
 
-/* A search by the engine's call, with its lists guarded. */
+/* A search by the engine's call, with its lists guarded, and the struct as a list of one place. */
 static inline struct spp_answer spp_guarded_search(spp_core_call call, const uint8_t *file, size_t file_count,
-                                                   uint32_t node_limit, uint16_t *plan, size_t plan_count) {
-    const struct spp_list lists[2] = {{file, file_count, sizeof *file}, {plan, plan_count, sizeof *plan}};
+                                                   uint32_t node_limit, const struct spp_lists *lists, uint16_t *plan,
+                                                   size_t plan_count) {
+    const struct spp_lists none = {NULL, 0, NULL, 0}, l = lists ? *lists : none;
+    const struct spp_list lent[5] = {{file, file_count, sizeof *file},
+                                     {l.agreed, l.agreed_count, sizeof *l.agreed},
+                                     {l.absent, l.absent_count, sizeof *l.absent},
+                                     {plan, plan_count, sizeof *plan},
+                                     {lists, 1, sizeof *lists}};
     struct spp_answer refused = {0, 0, 0, 0, 0, 0, 0};
     uint8_t no_file = 0;
-    uint16_t no_column = 0;
-    refused.refusal = spp_guard(lists, 2);
+    uint16_t no_agreed = 0, no_absent = 0, no_column = 0;
+    refused.refusal = spp_guard(lent, 5);
     if (refused.refusal) {
         return refused;
     }
-    return call(file ? file : &no_file, file_count, node_limit, plan ? plan : &no_column, plan_count);
+    return call(file ? file : &no_file, file_count, node_limit, l.agreed ? l.agreed : &no_agreed, l.agreed_count,
+                l.absent ? l.absent : &no_absent, l.absent_count, plan ? plan : &no_column, plan_count);
 }
 
 /*
- * Searches for a plan with the least sum of costs and enters at most `node_limit` nodes, 1 to 1,000,000: fills in the plan's columns,
- * rising. The plan list must hold as many places as there are rows.
+ * Searches for a plan with the least sum of costs that holds every agreed column and no absent one, and enters at most `node_limit`
+ * nodes, 1 to 1,000,000: fills in the plan's columns, rising. The plan list must hold as many places as there are rows. The struct is
+ * lent as the lists are: it must not be null nor share a byte with one of them.
  */
-static inline struct spp_answer spp_search(const uint8_t *file, size_t file_count, uint32_t node_limit, uint16_t *plan,
-                                           size_t plan_count) {
-    return spp_guarded_search(spp_core_search, file, file_count, node_limit, plan, plan_count);
+static inline struct spp_answer spp_search_with(const uint8_t *file, size_t file_count, uint32_t node_limit,
+                                                const struct spp_lists *lists, uint16_t *plan, size_t plan_count) {
+    return spp_guarded_search(spp_core_search, file, file_count, node_limit, lists, plan, plan_count);
 }
 
-/* Searches for a plan whose largest cost is least (its longest duty); all else is as for spp_search. */
+/* Searches for a plan whose largest cost is least (its longest duty); all else is as for spp_search_with. */
+static inline struct spp_answer spp_longest_with(const uint8_t *file, size_t file_count, uint32_t node_limit,
+                                                 const struct spp_lists *lists, uint16_t *plan, size_t plan_count) {
+    return spp_guarded_search(spp_core_longest, file, file_count, node_limit, lists, plan, plan_count);
+}
+
+/* spp_search_with, with no lists. */
+static inline struct spp_answer spp_search(const uint8_t *file, size_t file_count, uint32_t node_limit, uint16_t *plan,
+                                           size_t plan_count) {
+    const struct spp_lists none = {NULL, 0, NULL, 0};
+    return spp_search_with(file, file_count, node_limit, &none, plan, plan_count);
+}
+
+/* spp_longest_with, with no lists. */
 static inline struct spp_answer spp_longest(const uint8_t *file, size_t file_count, uint32_t node_limit, uint16_t *plan,
                                             size_t plan_count) {
-    return spp_guarded_search(spp_core_longest, file, file_count, node_limit, plan, plan_count);
+    const struct spp_lists none = {NULL, 0, NULL, 0};
+    return spp_longest_with(file, file_count, node_limit, &none, plan, plan_count);
 }
 
 #endif

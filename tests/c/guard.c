@@ -1,6 +1,7 @@
 /*
  * The guards of include/spp.h: lists that overlap and null pointers are refused before the engine is entered, and nothing is touched.
- * Each case lends every call's lists at chosen places of one block of memory.
+ * Each case lends every call's lists at chosen places of one block of memory. The struct of the searches with lists stands in the block
+ * too, as the last list of the call, with one place.
  */
 #include <stdio.h>
 #include <string.h>
@@ -9,21 +10,31 @@
 
 #define BLOCK 8000
 #define APART 1000 /* bytes between the lists' first places */
-#define MOST_LISTS 4
+#define MOST_LISTS 5
+#define STRUCT 4 /* the place of the struct among the lists of a search with lists */
 
-enum call { READ, WRITE, CHECK, REDUCE, SEARCH, LONGEST };
-static const char *const call_names[] = {"spp_read", "spp_write", "spp_check", "spp_reduce", "spp_search", "spp_longest"};
+enum call { READ, WRITE, CHECK, REDUCE, SEARCH, LONGEST, SEARCH_WITH, LONGEST_WITH };
+static const char *const call_names[] = {"spp_read",   "spp_write",   "spp_check",       "spp_reduce",
+                                         "spp_search", "spp_longest", "spp_search_with", "spp_longest_with"};
 
 /* The lists of each call: how many, and the bytes of one place. */
-static const size_t list_counts[] = {4, 4, 2, 3, 2, 2};
-static const size_t place_sizes[][MOST_LISTS] = {{1, 4, 2, 1}, {4, 2, 1, 1}, {1, 2, 0, 0},
-                                                 {1, 4, 1, 0}, {1, 2, 0, 0}, {1, 2, 0, 0}};
+static const size_t list_counts[] = {4, 4, 2, 3, 2, 2, 5, 5};
+static const size_t place_sizes[][MOST_LISTS] = {{1, 4, 2, 1, 0},
+                                                 {4, 2, 1, 1, 0},
+                                                 {1, 2, 0, 0, 0},
+                                                 {1, 4, 1, 0, 0},
+                                                 {1, 2, 0, 0, 0},
+                                                 {1, 2, 0, 0, 0},
+                                                 {1, 2, 2, 2, sizeof(struct spp_lists)},
+                                                 {1, 2, 2, 2, sizeof(struct spp_lists)}};
 
 /* Example 1 of the paper, which is example 7 too: 5 rows, 8 columns, 13 entries. */
 static const uint32_t costs[8] = {3, 7, 5, 8, 10, 4, 6, 9};
 static const uint16_t lengths[8] = {1, 2, 1, 2, 2, 2, 2, 1};
 static const uint8_t rows[13] = {1, 1, 5, 2, 2, 5, 2, 3, 3, 5, 3, 4, 4};
 static const uint16_t plan[3] = {1, 4, 7}, longest_plan[3] = {2, 3, 7};
+/* With these lists the plan 2 3 7 is forced. */
+static const uint16_t agreed[1] = {2}, absent[1] = {8};
 static uint8_t file[85];
 
 /* The block is aligned for every list. */
@@ -67,15 +78,45 @@ static uint32_t refusal_of(enum call call, const struct lent *l) {
             .refusal;
     case SEARCH:
         return spp_search((uint8_t *)l[0].start, l[0].count, 1000, (uint16_t *)l[1].start, l[1].count).refusal;
-    default:
+    case LONGEST:
         return spp_longest((uint8_t *)l[0].start, l[0].count, 1000, (uint16_t *)l[1].start, l[1].count).refusal;
+    default:
+        return (call == SEARCH_WITH ? spp_search_with : spp_longest_with)((uint8_t *)l[0].start, l[0].count, 1000,
+                                                                          (struct spp_lists *)l[STRUCT].start,
+                                                                          (uint16_t *)l[3].start, l[3].count)
+            .refusal;
+    }
+}
+
+/* Lists of agreed and absent columns as a struct. */
+static struct spp_lists lists_of(const void *agreed_start, size_t agreed_count, const void *absent_start,
+                                 size_t absent_count) {
+    struct spp_lists lists;
+    memset(&lists, 0, sizeof lists);
+    lists.agreed = (const uint16_t *)agreed_start;
+    lists.agreed_count = agreed_count;
+    lists.absent = (const uint16_t *)absent_start;
+    lists.absent_count = absent_count;
+    return lists;
+}
+
+/* Whether the call takes a struct. */
+static int has_struct(enum call call) {
+    return list_counts[call] > STRUCT;
+}
+
+/* Puts the agreed and absent lists that are lent into the struct that is lent. */
+static void put_struct(enum call call, const struct lent *l) {
+    if (has_struct(call) && l[STRUCT].start) {
+        struct spp_lists lists = lists_of(l[1].start, l[1].count, l[2].start, l[2].count);
+        memcpy(l[STRUCT].start, &lists, sizeof lists);
     }
 }
 
 /* Fills the block with a pattern and lends each list at a place of its own, with what an accepted call needs. */
 static void lend(enum call call, struct lent *l) {
-    static const size_t counts[][MOST_LISTS] = {{85, 8, 8, 13}, {8, 8, 13, 85}, {85, 3, 0, 0},
-                                                {85, 8, 5, 0},  {85, 5, 0, 0},  {85, 5, 0, 0}};
+    static const size_t counts[][MOST_LISTS] = {{85, 8, 8, 13, 0}, {8, 8, 13, 85, 0}, {85, 3, 0, 0, 0}, {85, 8, 5, 0, 0},
+                                                {85, 5, 0, 0, 0},  {85, 5, 0, 0, 0},  {85, 1, 1, 5, 1}, {85, 1, 1, 5, 1}};
     size_t i;
     for (i = 0; i < BLOCK; i++) {
         block.bytes[i] = (uint8_t)(i * 5 + 77);
@@ -94,10 +135,15 @@ static void lend(enum call call, struct lent *l) {
     if (call == CHECK) {
         memcpy(l[1].start, plan, sizeof plan);
     }
+    if (has_struct(call)) {
+        memcpy(l[1].start, agreed, sizeof agreed);
+        memcpy(l[2].start, absent, sizeof absent);
+    }
 }
 
 /* The call must refuse with this number and leave the whole block as it was. */
 static void refuses(enum call call, const struct lent *l, uint32_t wanted, const char *what) {
+    put_struct(call, l);
     before = block;
     holds(refusal_of(call, l) == wanted, call, what);
     holds(memcmp(&before, &block, sizeof block) == 0, call, "a refusal touched a list");
@@ -105,6 +151,7 @@ static void refuses(enum call call, const struct lent *l, uint32_t wanted, const
 
 /* The call must not be refused by a guard. */
 static void enters(enum call call, const struct lent *l, const char *what) {
+    put_struct(call, l);
     holds(refusal_of(call, l) < SPP_OVERLAP, call, what);
 }
 
@@ -133,6 +180,9 @@ static void pairs(enum call call) {
             }
             move(call, l, i, j, bytes);
             enters(call, l, "two lists side by side");
+            if (j == STRUCT) {
+                continue;
+            }
             lend(call, l);
             l[j].count = 0;
             move(call, l, i, j, 0);
@@ -143,11 +193,28 @@ static void pairs(enum call call) {
     }
 }
 
-/* Null pointers, with and without a count, and counts beyond the address space. */
+/* A null pointer for the struct, with lists and with none. */
+static void null_struct(enum call call) {
+    struct lent l[MOST_LISTS];
+    size_t i;
+    lend(call, l);
+    l[STRUCT].start = NULL;
+    refuses(call, l, SPP_NULL, "a null pointer for the struct");
+    for (i = 0; i < STRUCT; i++) {
+        l[i].start = NULL;
+        l[i].count = 0;
+    }
+    refuses(call, l, SPP_NULL, "a null pointer for the struct, and all lists null and empty");
+}
+
+/* Null pointers, with and without a count, and counts beyond the address space. The struct has no count. */
 static void nulls(enum call call) {
     struct lent l[MOST_LISTS];
-    size_t i, j;
-    for (i = 0; i < list_counts[call]; i++) {
+    size_t counted = has_struct(call) ? STRUCT : list_counts[call], i, j;
+    if (has_struct(call)) {
+        null_struct(call);
+    }
+    for (i = 0; i < counted; i++) {
         lend(call, l);
         l[i].start = NULL;
         refuses(call, l, SPP_NULL, "a null pointer with a count");
@@ -168,7 +235,7 @@ static void nulls(enum call call) {
             l[i].count = APART / place_sizes[call][i];
             enters(call, l, "a list that ends where the next one starts");
         }
-        for (j = 0; j < list_counts[call]; j++) {
+        for (j = 0; j < counted; j++) {
             l[j].start = NULL;
             l[j].count = 0;
         }
@@ -184,11 +251,32 @@ static int equal_answers(struct spp_answer a, struct spp_answer b) {
 /* An accepted search of example 1 through the header: the stated answer and plan, and the same as from the engine. */
 static void accepted_search(enum call call, const uint16_t *wanted_plan, uint64_t price, uint64_t bound) {
     struct spp_answer wanted = {0, SPP_BEST, 1, 3, 3, price, bound};
-    uint16_t found[5], core_found[5];
+    uint16_t found[5], core_found[5], empty[2] = {0, 0};
     struct spp_answer answer = (call == SEARCH ? spp_search : spp_longest)(file, 85, 1000, found, 5);
-    struct spp_answer core_answer = (call == SEARCH ? spp_core_search : spp_core_longest)(file, 85, 1000, core_found, 5);
+    struct spp_answer core_answer =
+        (call == SEARCH ? spp_core_search : spp_core_longest)(file, 85, 1000, empty, 0, empty + 1, 0, core_found, 5);
     holds(equal_answers(answer, wanted) && !memcmp(found, wanted_plan, sizeof plan), call, "example 1");
     holds(equal_answers(answer, core_answer) && !memcmp(found, core_found, sizeof plan), call, "header and engine");
+}
+
+/* Searches of example 1 with lists: a struct of zeros gives the answer without lists, and other lists the stated answer and refusals. */
+static void accepted_lists(enum call call, uint64_t price) {
+    struct spp_answer (*const search)(const uint8_t *, size_t, uint32_t, const struct spp_lists *, uint16_t *, size_t) =
+        call == SEARCH_WITH ? spp_search_with : spp_longest_with;
+    struct spp_answer wanted = {0, SPP_BEST, 1, 3, 1, price, price};
+    struct spp_lists none = lists_of(NULL, 0, NULL, 0), lists = lists_of(agreed, 1, absent, 1);
+    uint16_t found[5], former_found[5], twice[2] = {2, 2};
+    struct spp_answer answer = search(file, 85, 1000, &none, found, 5);
+    struct spp_answer former = (call == SEARCH_WITH ? spp_search : spp_longest)(file, 85, 1000, former_found, 5);
+    holds(equal_answers(answer, former) && !memcmp(found, former_found, sizeof plan), call, "no lists");
+    answer = search(file, 85, 1000, &lists, found, 5);
+    holds(equal_answers(answer, wanted) && !memcmp(found, longest_plan, sizeof plan), call, "agreed 2, absent 8");
+    lists = lists_of(twice, 2, twice, 2);
+    holds(search(file, 85, 1000, &lists, found, 5).refusal == SPP_OVERLAP, call, "one list lent as agreed and absent");
+    lists = lists_of(twice, 2, absent, 1);
+    holds(search(file, 85, 1000, &lists, found, 5).refusal == SPP_BAD_AGREED, call, "an agreed list that does not rise");
+    lists = lists_of(agreed, 1, twice, 2);
+    holds(search(file, 85, 1000, &lists, found, 5).refusal == SPP_BAD_ABSENT, call, "an absent list that does not rise");
 }
 
 /* Accepted calls through the header: stated values. */
@@ -208,6 +296,8 @@ static void accepted(void) {
     holds(order[0] == 4 && order[1] == 1 && order[2] == 2 && order[3] == 5, REDUCE, "the order of example 1");
     accepted_search(SEARCH, plan, 17, 17);
     accepted_search(LONGEST, longest_plan, 7, 6);
+    accepted_lists(SEARCH_WITH, 18);
+    accepted_lists(LONGEST_WITH, 7);
 }
 
 int main(void) {
@@ -215,7 +305,7 @@ int main(void) {
     struct spp_written written = spp_write(5, costs, 8, lengths, 8, rows, 13, file, sizeof file);
     holds(written.refusal == 0 && written.length == sizeof file, WRITE, "example 1");
     accepted();
-    for (call = READ; call <= LONGEST; call++) {
+    for (call = READ; call <= LONGEST_WITH; call++) {
         pairs((enum call)call);
         nulls((enum call)call);
     }

@@ -1,8 +1,11 @@
 //! The same call of the engine and of `plain`, on lists of equal contents. Each comparison is one case: the answer, every place of every
 //! lent list, and the places before and behind it.
 
+use std::hint::black_box;
+
 use spp_tests::answers::{Answer, Checked, Reduced, Shape, Written};
 use spp_tests::goal::Goal;
+use spp_tests::requests::Requests;
 use spp_tests::{engine, plain};
 
 use crate::report::{hex, Report};
@@ -20,6 +23,12 @@ pub struct Lent<T> {
 impl<T: Copy> Lent<T> {
     fn new(count: usize, pattern: impl Fn(usize) -> T) -> Lent<T> {
         Lent { places: (0..count + 2 * MARGIN).map(pattern).collect(), count }
+    }
+
+    /// The list with these contents, inside the pattern.
+    fn holding(mut self, contents: &[T]) -> Lent<T> {
+        self.list_mut().copy_from_slice(contents);
+        self
     }
 
     pub fn list(&self) -> &[T] {
@@ -97,13 +106,36 @@ pub fn reduce(report: &mut Report, file: &[u8], rooms: [usize; 2]) -> (Reduced, 
     found
 }
 
+type SearchCall = fn(Goal, &[u8], u32, Requests, &mut [u16]) -> Answer;
+
+/// A search's answer, and its lists after the call: the plan, the file, the agreed and the absent columns.
+type Searched = (Answer, Lent<u16>, Lent<u8>, [Lent<u16>; 2]);
+
+/// The search with two empty lists, against `plain` without lists.
 pub fn search(report: &mut Report, goal: Goal, file: &[u8], limit: u32, room: usize) -> (Answer, Vec<u16>) {
-    let run = |call: fn(Goal, &[u8], u32, &mut [u16]) -> Answer| {
-        let mut plan = shorts(room);
-        (call(goal, file, limit, plan.list_mut()), plan)
+    search_with(report, goal, file, limit, Requests::NONE, room)
+}
+
+/// The answer, and the plan shown.
+pub fn search_with(
+    report: &mut Report,
+    goal: Goal,
+    file: &[u8],
+    limit: u32,
+    requests: Requests,
+    room: usize,
+) -> (Answer, Vec<u16>) {
+    let run = |call: SearchCall| -> Searched {
+        let (mut plan, lent_file) = (shorts(room), bytes(file.len()).holding(file));
+        let lists = [requests.agreed, requests.absent].map(|list| shorts(list.len()).holding(list));
+        let lent = Requests { agreed: lists[0].list(), absent: lists[1].list() };
+        let answer = call(goal, lent_file.list(), limit, lent, plan.list_mut());
+        (answer, plan, black_box(lent_file), black_box(lists))
     };
-    let found = run(engine::search);
-    report.same(&found, &run(plain::search), || format!("search ({goal}), allowance {limit}, room {room}, {}", hex(file)));
+    let found = run(engine::search_with);
+    report.same(&found, &run(plain::search_with), || {
+        format!("search ({goal}), allowance {limit}, {requests:?}, room {room}, {}", hex(file))
+    });
     let shown = (found.0.columns as usize).min(room);
     (found.0, found.1.list()[..shown].to_vec())
 }

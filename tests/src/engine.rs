@@ -2,6 +2,7 @@
 
 use crate::answers::{Answer, Checked, Reduced, Shape, Written};
 use crate::goal::Goal;
+use crate::requests::Requests;
 
 extern "C" {
     fn spp_core_read(
@@ -34,8 +35,28 @@ extern "C" {
         order: *mut u8,
         order_count: usize,
     ) -> Reduced;
-    fn spp_core_search(file: *const u8, file_count: usize, node_limit: u32, plan: *mut u16, plan_count: usize) -> Answer;
-    fn spp_core_longest(file: *const u8, file_count: usize, node_limit: u32, plan: *mut u16, plan_count: usize) -> Answer;
+    fn spp_core_search(
+        file: *const u8,
+        file_count: usize,
+        node_limit: u32,
+        agreed: *const u16,
+        agreed_count: usize,
+        absent: *const u16,
+        absent_count: usize,
+        plan: *mut u16,
+        plan_count: usize,
+    ) -> Answer;
+    fn spp_core_longest(
+        file: *const u8,
+        file_count: usize,
+        node_limit: u32,
+        agreed: *const u16,
+        agreed_count: usize,
+        absent: *const u16,
+        absent_count: usize,
+        plan: *mut u16,
+        plan_count: usize,
+    ) -> Answer;
 }
 
 pub fn read(file: &[u8], costs: &mut [u32], lengths: &mut [u16], numbers: &mut [u8]) -> Shape {
@@ -77,10 +98,28 @@ pub fn reduce(file: &[u8], reduced: &mut [u32], order: &mut [u8]) -> Reduced {
     unsafe { spp_core_reduce(file.as_ptr(), file.len(), reduced.as_mut_ptr(), reduced.len(), order.as_mut_ptr(), order.len()) }
 }
 
+/// The search for a goal, with two empty lists.
 pub fn search(goal: Goal, file: &[u8], limit: u32, plan: &mut [u16]) -> Answer {
-    let (file, file_count, plan, plan_count) = (file.as_ptr(), file.len(), plan.as_mut_ptr(), plan.len());
-    match goal {
-        Goal::Sum => unsafe { spp_core_search(file, file_count, limit, plan, plan_count) },
-        Goal::Longest => unsafe { spp_core_longest(file, file_count, limit, plan, plan_count) },
+    search_with(goal, file, limit, Requests::NONE, plan)
+}
+
+pub fn search_with(goal: Goal, file: &[u8], limit: u32, requests: Requests, plan: &mut [u16]) -> Answer {
+    let call = match goal {
+        Goal::Sum => spp_core_search,
+        Goal::Longest => spp_core_longest,
+    };
+    let Requests { agreed, absent } = requests;
+    unsafe {
+        call(
+            file.as_ptr(),
+            file.len(),
+            limit,
+            agreed.as_ptr(),
+            agreed.len(),
+            absent.as_ptr(),
+            absent.len(),
+            plan.as_mut_ptr(),
+            plan.len(),
+        )
     }
 }

@@ -1,6 +1,6 @@
 //! Tests and benchmarks of the engine's static library.
 //!
-//! `plain` is an implementation of the rules of 01 and of 02, P1, tree and all, written from the papers. `second` finds the least price by
+//! `plain` is an implementation of the rules of 01 and of 02, P1 and P2, tree and all, written from the papers. `second` finds the least price by
 //! another method and shares no code with it. `engine` calls the static library. `stored` works out what the repository stores.
 
 pub mod answers;
@@ -10,5 +10,6 @@ pub mod generate;
 pub mod goal;
 pub mod plain;
 pub mod random;
+pub mod requests;
 pub mod second;
 pub mod stored;

@@ -37,9 +37,12 @@ fn compare_all() -> bool {
     let mut report = Report::default();
     println!("(a) is the plain implementation in tests/src/plain, the second solver is tests/src/second.rs");
     groups::worked::run(&mut report);
+    groups::worked_lists::run(&mut report);
     groups::stored::run(&mut report);
     groups::generated::run(&mut report);
     groups::limits::largest(&mut report);
+    groups::lists::run(&mut report);
+    groups::list_faults::run(&mut report);
     groups::damaged::run(&mut report);
     groups::rooms::run(&mut report);
     groups::deep::run(&mut report);

@@ -5,6 +5,7 @@ use std::collections::HashMap;
 
 use crate::files::Columns;
 use crate::goal::Goal;
+use crate::requests::Requests;
 
 /// The rows of each column as a set: bit i stands for row i + 1.
 fn row_sets(columns: &Columns) -> Vec<u64> {
@@ -15,11 +16,22 @@ fn all_rows(rows: u16) -> u64 {
     u64::MAX >> (64 - rows)
 }
 
-/// The columns whose lowest row is each row.
-fn by_lowest_row(sets: &[u64], rows: u16) -> Vec<Vec<usize>> {
+/// The columns that the lists leave, counted from 0: no absent one, and none that shares a row with an agreed one other than itself. So a
+/// row of an agreed column is left that column alone, and any set of these columns that covers each row holds every agreed one. Of two
+/// agreed ones that share a row neither is left, and nothing covers that row.
+fn left_by(requests: Requests, sets: &[u64]) -> Vec<usize> {
+    let is_apart = |column: usize, agreed: u16| column + 1 == agreed as usize || sets[column] & sets[agreed as usize - 1] == 0;
+    let is_left = |&column: &usize| {
+        !requests.absent.contains(&(column as u16 + 1)) && requests.agreed.iter().all(|&agreed| is_apart(column, agreed))
+    };
+    (0..sets.len()).filter(is_left).collect()
+}
+
+/// Of these columns, those whose lowest row is each row.
+fn by_lowest_row(sets: &[u64], columns: &[usize], rows: u16) -> Vec<Vec<usize>> {
     let mut lists = vec![Vec::new(); rows as usize];
-    for (column, set) in sets.iter().enumerate() {
-        lists[set.trailing_zeros() as usize].push(column);
+    for &column in columns {
+        lists[sets[column].trailing_zeros() as usize].push(column);
     }
     lists
 }
@@ -48,8 +60,13 @@ pub fn price(columns: &Columns, plan: &[u16], goal: Goal) -> u64 {
 
 /// The least price of a plan, by a table of at most `most` sets of covered rows.
 pub fn least_price(columns: &Columns, goal: Goal, most: usize) -> Least {
+    least_price_with(columns, goal, Requests::NONE, most)
+}
+
+/// The same, of the plans that hold every agreed column and no absent one. The numbers of both lists are in range.
+pub fn least_price_with(columns: &Columns, goal: Goal, requests: Requests, most: usize) -> Least {
     let sets = row_sets(columns);
-    let starters = by_lowest_row(&sets, columns.rows);
+    let starters = by_lowest_row(&sets, &left_by(requests, &sets), columns.rows);
     let rows = columns.rows as usize;
     // The sets whose lowest open row is each row; the last place is for all rows covered.
     let mut tables: Vec<HashMap<u64, u64>> = vec![HashMap::new(); rows + 1];
@@ -79,7 +96,8 @@ pub fn least_price(columns: &Columns, goal: Goal, most: usize) -> Least {
 /// Calls `each` with every plan (columns numbered from 1, not sorted), up to `most` plans.
 pub fn each_plan(columns: &Columns, most: usize, mut each: impl FnMut(&[u16])) -> usize {
     let sets = row_sets(columns);
-    let starters = by_lowest_row(&sets, columns.rows);
+    let every: Vec<usize> = (0..sets.len()).collect();
+    let starters = by_lowest_row(&sets, &every, columns.rows);
     let all = all_rows(columns.rows);
     let mut count = 0;
     // Partial plans still to be extended.

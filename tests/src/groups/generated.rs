@@ -6,8 +6,10 @@ use spp_tests::files::Columns;
 use spp_tests::generate;
 use spp_tests::goal::Goal;
 use spp_tests::random::Random;
+use spp_tests::requests::Requests;
 use spp_tests::second::{each_plan, least_price, price, Least};
 
+use super::case::Case;
 use super::{limits, prices};
 use crate::compare::{self, Lists};
 use crate::report::{hex, Report};
@@ -73,8 +75,9 @@ fn one_file(report: &mut Report, family: &Family, random: &mut Random, totals: &
     offered_lists(report, &columns, &file, random);
     reductions(report, &columns, &file, family.plans);
     for (goal, totals) in totals {
-        let answer = searches(report, *goal, &columns, &file, family.limit, totals);
-        limits::every(report, *goal, &columns, &file, &answer, family.every_limit);
+        let case = Case { goal: *goal, columns: &columns, file: &file, requests: Requests::NONE };
+        let answer = searches(report, &case, family.limit, totals);
+        limits::every(report, &case, &answer, family.every_limit);
         totals.nodes += answer.nodes as u64;
     }
 }
@@ -131,28 +134,14 @@ fn reductions(report: &mut Report, columns: &Columns, file: &[u8], most_plans: u
 }
 
 /// Searches, and holds the answer to the second solver and the plan shown to the plan check.
-fn searches(report: &mut Report, goal: Goal, columns: &Columns, file: &[u8], limit: u32, totals: &mut Totals) -> Answer {
-    report.group_of(goal, "search: answers, node counts, root floors and plan lists against (a)");
-    let (answer, plan) = compare::search(report, goal, file, limit, columns.rows as usize + 3);
-    plan_shown(report, goal, columns, file, &answer, &plan);
+fn searches(report: &mut Report, case: &Case, limit: u32, totals: &mut Totals) -> Answer {
+    report.group_of(case.goal, "search: answers, node counts, root floors and plan lists against (a)");
+    let (answer, plan) = case.search(report, limit, case.columns.rows as usize + 3);
+    case.plan_shown(report, &answer, &plan);
     totals.stopped += (answer.outcome == STOPPED) as usize;
-    let least = least_price(columns, goal, MOST_SETS);
-    report.group_of(goal, "search: best price, none and root floor against the second solver");
+    let least = least_price(case.columns, case.goal, MOST_SETS);
+    report.group_of(case.goal, "search: best price, none and root floor against the second solver");
     totals.unknown += (least == Least::Unknown) as usize;
-    prices::compare(report, &answer, least, || hex(file));
+    prices::compare(report, &answer, least, || hex(case.file));
     answer
-}
-
-/// A plan shown is one at the price given, by the engine's plan check, by (a)'s, and by the columns as they were made.
-pub fn plan_shown(report: &mut Report, goal: Goal, columns: &Columns, file: &[u8], answer: &Answer, plan: &[u16]) {
-    if answer.has_plan == 0 {
-        return;
-    }
-    report.group_of(goal, "plans shown pass the plan check and have the price given");
-    let checked = compare::check(report, file, plan);
-    let (sum, wanted) = (price(columns, plan, Goal::Sum), price(columns, plan, goal));
-    report.same(&(checked.is_plan, checked.price, answer.price), &(1, sum, wanted), || format!("{plan:?}, {}", hex(file)));
-    let mut covered: Vec<u8> = plan.iter().flat_map(|&column| columns.bodies[column as usize - 1].clone()).collect();
-    covered.sort_unstable();
-    report.holds(covered == (1..=columns.rows as u8).collect::<Vec<u8>>(), || format!("{plan:?}, {}", hex(file)));
 }

@@ -4,39 +4,44 @@ use spp_tests::answers::{Answer, STOPPED};
 use spp_tests::files::Columns;
 use spp_tests::goal::Goal;
 
+use super::case::Case;
 use crate::compare;
-use crate::report::{hex, Report};
+use crate::report::Report;
 
 const GROUP: &str = "allowances from 1 to the tree's size, 0, 1,000,000 and 1,000,001";
+const GROUP_WITH_LISTS: &str = "lists: allowances from 1 to the tree's size, 0, 1,000,000 and 1,000,001";
+
+fn group(report: &mut Report, case: &Case) {
+    case.group(report, GROUP, GROUP_WITH_LISTS);
+}
 
 /// All node limits of a tree whose answer is given, where it has at most `most` nodes; else some of them.
-pub fn every(report: &mut Report, goal: Goal, columns: &Columns, file: &[u8], answer: &Answer, most: u32) {
-    let room = columns.rows as usize;
-    report.group_of(goal, GROUP);
+pub fn every(report: &mut Report, case: &Case, answer: &Answer, most: u32) {
+    let room = case.columns.rows as usize;
+    group(report, case);
     for limit in [0, 1_000_001, u32::MAX] {
-        let found = compare::search(report, goal, file, limit, room).0;
-        report.same(&found.refusal, &11, || format!("allowance {limit}, {}", hex(file)));
+        let found = case.search(report, limit, room).0;
+        report.same(&found.refusal, &11, || format!("allowance {limit}, {}", case.text()));
     }
     if answer.outcome == STOPPED {
-        return some_of(report, goal, columns, file, answer, &[1, 2, 10, answer.nodes / 2, answer.nodes - 1]);
+        return some_of(report, case, answer, &[1, 2, 10, answer.nodes / 2, answer.nodes - 1]);
     }
-    let whole = compare::search(report, goal, file, 1_000_000, room).0;
-    report.same(&whole, answer, || hex(file));
+    let whole = case.search(report, 1_000_000, room).0;
+    report.same(&whole, answer, || case.text());
     if answer.nodes > most {
-        let ends = [1, 2, answer.nodes - 1, answer.nodes, answer.nodes + 1];
-        return some_of(report, goal, columns, file, answer, &ends);
+        return some_of(report, case, answer, &[1, 2, answer.nodes - 1, answer.nodes, answer.nodes + 1]);
     }
     let all: Vec<u32> = (1..=answer.nodes + 1).collect();
-    some_of(report, goal, columns, file, answer, &all);
+    some_of(report, case, answer, &all);
 }
 
 /// Some limits of a tree whose answer is given: stopped exactly where the limit is below the answer's nodes.
-fn some_of(report: &mut Report, goal: Goal, columns: &Columns, file: &[u8], answer: &Answer, limits: &[u32]) {
+fn some_of(report: &mut Report, case: &Case, answer: &Answer, limits: &[u32]) {
     for &limit in limits {
-        let (found, plan) = compare::search(report, goal, file, limit, columns.rows as usize);
-        report.same(&(found.outcome == STOPPED), &(limit < answer.nodes), || format!("allowance {limit}, {}", hex(file)));
-        super::generated::plan_shown(report, goal, columns, file, &found, &plan);
-        report.group_of(goal, GROUP);
+        let (found, plan) = case.search(report, limit, case.columns.rows as usize);
+        report.same(&(found.outcome == STOPPED), &(limit < answer.nodes), || format!("allowance {limit}, {}", case.text()));
+        case.plan_shown(report, &found, &plan);
+        group(report, case);
     }
 }
 

@@ -4,7 +4,8 @@
 
 use spp_tests::files::{self, Columns};
 use spp_tests::goal::Goal;
-use spp_tests::second::{least_price, Least};
+use spp_tests::requests::Requests;
+use spp_tests::second::{least_price, least_price_with, Least};
 use spp_tests::stored::samples::List;
 use spp_tests::stored::search_files::{self, Search};
 use spp_tests::stored::tables::{self, Place, Question};
@@ -89,11 +90,13 @@ fn table_place(report: &mut Report, file: &str, place: &Place) {
     if let Some(example) = example(name) {
         report.same(&bytes, &example.file(), || format!("{file}: {name} and the paper's example"));
     }
-    match place.question {
+    match &place.question {
         Question::Order => drop(compare::reduce(report, &bytes, [columns.costs.len(), rows])),
-        Question::Search(goal, limit) => {
-            let answer = compare::search(report, goal, &bytes, limit, rows).0;
-            prices::compare(report, &answer, least_price(columns, goal, MOST_SETS), || format!("second solver, {name}"));
+        Question::Search { goal, limit, agreed, absent } => {
+            let requests = Requests { agreed, absent };
+            let answer = compare::search_with(report, *goal, &bytes, *limit, requests, rows).0;
+            let least = least_price_with(columns, *goal, requests, MOST_SETS);
+            prices::compare(report, &answer, least, || format!("second solver, {name}, {requests:?}"));
         }
     }
 }

@@ -5,35 +5,36 @@ use spp_tests::answers::{Answer, Shape, BEST, NONE, STOPPED};
 use spp_tests::engine;
 use spp_tests::files::{self, columns, Columns};
 use spp_tests::goal::Goal;
-use spp_tests::second::least_price;
+use spp_tests::requests::Requests;
+use spp_tests::second::least_price_with;
 
 use super::prices;
 use crate::compare;
 use crate::report::Report;
 
-const LIMIT: u32 = 1_000_000;
+pub const LIMIT: u32 = 1_000_000;
 
-fn best(price: u64, bound: u64, nodes: u32, columns: u32) -> Answer {
+pub fn best(price: u64, bound: u64, nodes: u32, columns: u32) -> Answer {
     Answer { refusal: 0, outcome: BEST, has_plan: 1, columns, nodes, price, bound }
 }
 
-fn none(nodes: u32) -> Answer {
+pub fn none(nodes: u32) -> Answer {
     Answer { outcome: NONE, nodes, ..Answer::default() }
 }
 
-fn stopped(bound: u64, nodes: u32) -> Answer {
+pub fn stopped(bound: u64, nodes: u32) -> Answer {
     Answer { outcome: STOPPED, nodes, bound, ..Answer::default() }
 }
 
-fn stopped_with(price: u64, bound: u64, nodes: u32, columns: u32) -> Answer {
+pub fn stopped_with(price: u64, bound: u64, nodes: u32, columns: u32) -> Answer {
     Answer { outcome: STOPPED, has_plan: 1, columns, price, ..stopped(bound, nodes) }
 }
 
-fn one_duty() -> Columns {
+pub fn one_duty() -> Columns {
     columns(1, &[(&[1], 5)])
 }
 
-fn twice() -> Columns {
+pub fn twice() -> Columns {
     columns(1, &[(&[1], 5), (&[1], 5)])
 }
 
@@ -41,26 +42,32 @@ fn uncovered() -> Columns {
     columns(2, &[(&[1], 3)])
 }
 
-fn two_or_one() -> Columns {
+pub fn two_or_one() -> Columns {
     columns(2, &[(&[1, 2], 9), (&[1], 4), (&[2], 4)])
 }
 
-fn triangle() -> Columns {
+pub fn triangle() -> Columns {
     columns(3, &[(&[1, 2], 1), (&[2, 3], 1), (&[1, 3], 1)])
 }
 
 /// A search with a stated answer and plan.
-struct Search {
-    goal: Goal,
-    name: &'static str,
-    columns: Columns,
-    limit: u32,
-    answer: Answer,
-    plan: &'static [u16],
+pub struct Search {
+    pub goal: Goal,
+    pub name: &'static str,
+    pub columns: Columns,
+    pub requests: Requests<'static>,
+    pub limit: u32,
+    pub answer: Answer,
+    pub plan: &'static [u16],
+}
+
+/// A search without lists.
+fn unasked(goal: Goal, name: &'static str, columns: Columns, limit: u32, answer: Answer, plan: &'static [u16]) -> Search {
+    Search { goal, name, columns, requests: Requests::NONE, limit, answer, plan }
 }
 
 fn sum_searches() -> Vec<Search> {
-    let case = |name, columns, limit, answer, plan| Search { goal: Goal::Sum, name, columns, limit, answer, plan };
+    let case = |name, columns, limit, answer, plan| unasked(Goal::Sum, name, columns, limit, answer, plan);
     vec![
         case("one duty", one_duty(), LIMIT, best(5, 5, 1, 1), &[1]),
         case("the same duty twice", twice(), LIMIT, best(5, 5, 2, 1), &[1]),
@@ -85,7 +92,7 @@ fn forced_dear() -> Columns {
 }
 
 fn longest_searches() -> Vec<Search> {
-    let case = |name, columns, limit, answer, plan| Search { goal: Goal::Longest, name, columns, limit, answer, plan };
+    let case = |name, columns, limit, answer, plan| unasked(Goal::Longest, name, columns, limit, answer, plan);
     let open_row = columns(2, &[(&[1], 2), (&[1], 3), (&[2], 5), (&[2], 7)]);
     let taken_column = columns(2, &[(&[1], 9), (&[2], 2), (&[2], 3)]);
     let equal_floor = columns(3, &[(&[1, 3], 1), (&[1, 2], 4), (&[2, 3], 4), (&[2], 7), (&[3], 7), (&[3], 8)]);
@@ -168,11 +175,13 @@ fn limits() -> Vec<(&'static str, Columns, u32)> {
 }
 
 /// The search's stated answer and plan, and the second solver's price.
-fn stated_search(report: &mut Report, case: &Search) {
-    let Search { goal, name, columns, limit, answer, plan } = case;
-    let found = compare::search(report, *goal, &columns.file(), *limit, columns.rows as usize);
-    report.same(&found, &(*answer, plan.to_vec()), || format!("{name} ({goal})"));
-    prices::compare(report, answer, least_price(columns, *goal, 10_000), || format!("second solver, {name} ({goal})"));
+pub fn stated_search(report: &mut Report, case: &Search) {
+    let Search { goal, name, columns, requests, limit, answer, plan } = case;
+    let found = compare::search_with(report, *goal, &columns.file(), *limit, *requests, columns.rows as usize);
+    let what = || format!("{name} ({goal}), {requests:?}");
+    report.same(&found, &(*answer, plan.to_vec()), what);
+    let least = least_price_with(columns, *goal, *requests, 10_000);
+    prices::compare(report, answer, least, || format!("second solver, {}", what()));
 }
 
 fn stated_reduction(report: &mut Report, case: &Reduction) {

@@ -30,7 +30,7 @@ fn four_bytes(file: &[u8], at: usize) -> u32 {
 }
 
 /// Whether the numbers rise and lie in 1 to `most`.
-fn rising(numbers: impl Iterator<Item = usize>, most: usize) -> bool {
+pub fn rising(numbers: impl Iterator<Item = usize>, most: usize) -> bool {
     let mut former = 0;
     for number in numbers {
         if number <= former || number > most {

@@ -1,12 +1,14 @@
-//! The tree: the choice of a row and a column, the branches, the node limit, and the public call.
+//! The tree: the choice of a row and a column, the branches, the node limit, and the public calls.
 
 use std::cmp::Reverse;
 
 use super::file::{parse, Duties};
 use super::matrix::Matrix;
 use super::node::{Forced, Node, FREE, OUT};
+use super::requests;
 use crate::answers::{Answer, BEST, NONE, STOPPED};
 use crate::goal::Goal;
+use crate::requests::Requests;
 
 const MOST_NODES: u32 = 1_000_000;
 
@@ -84,6 +86,7 @@ impl Node {
 struct Walk<'a> {
     matrix: &'a Matrix,
     goal: Goal,
+    requests: Requests<'a>,
     limit: u32,
     nodes: u32,
     stopped: bool,
@@ -114,6 +117,9 @@ impl Walk<'_> {
 
     fn visit(&mut self, mut node: Node) {
         let is_root = self.nodes == 1;
+        if is_root && !node.grant(self.matrix, self.goal, self.requests) {
+            return;
+        }
         let forced = node.force(self.matrix, self.goal);
         if forced == Forced::Open {
             self.goal.reduce(self.matrix, &mut node);
@@ -171,10 +177,10 @@ pub struct Tree {
 }
 
 /// Walks the tree of the file's columns.
-fn walk(duties: &Duties, goal: Goal, limit: u32) -> Tree {
-    let matrix = Matrix::new(duties);
-    let mut walk =
-        Walk { matrix: &matrix, goal, limit, nodes: 0, stopped: false, root_bound: 0, kept: None, depth: 0, deepest: 0 };
+fn walk(duties: &Duties, goal: Goal, requests: Requests, limit: u32) -> Tree {
+    let matrix = &Matrix::new(duties);
+    let (nodes, stopped, root_bound, kept, depth, deepest) = (0, false, 0, None, 0, 0);
+    let mut walk = Walk { matrix, goal, requests, limit, nodes, stopped, root_bound, kept, depth, deepest };
     walk.enter(Node::root(duties));
     let plan = walk.kept.as_ref().map_or(Vec::new(), |(_, node)| node.taken());
     Tree { answer: walk.answer(), plan, deepest: walk.deepest }
@@ -182,11 +188,16 @@ fn walk(duties: &Duties, goal: Goal, limit: u32) -> Tree {
 
 /// Walks the tree of an accepted file with a node limit in range.
 pub fn tree(goal: Goal, file: &[u8], limit: u32) -> Result<Tree, u32> {
-    parse(file).map(|duties| walk(&duties, goal, limit))
+    parse(file).map(|duties| walk(&duties, goal, Requests::NONE, limit))
 }
 
-/// The search.
+/// The search without lists.
 pub fn search(goal: Goal, file: &[u8], limit: u32, plan: &mut [u16]) -> Answer {
+    search_with(goal, file, limit, Requests::NONE, plan)
+}
+
+/// The search with lists.
+pub fn search_with(goal: Goal, file: &[u8], limit: u32, requests: Requests, plan: &mut [u16]) -> Answer {
     let refused = |refusal| Answer { refusal, ..Answer::default() };
     let duties = match parse(file) {
         Ok(duties) => duties,
@@ -198,7 +209,10 @@ pub fn search(goal: Goal, file: &[u8], limit: u32, plan: &mut [u16]) -> Answer {
     if !(1..=MOST_NODES).contains(&limit) {
         return refused(11);
     }
-    let tree = walk(&duties, goal, limit);
+    if let Some(refusal) = requests::refusal(requests, &duties) {
+        return refused(refusal);
+    }
+    let tree = walk(&duties, goal, requests, limit);
     plan[..tree.plan.len()].copy_from_slice(&tree.plan);
     tree.answer
 }

@@ -19,7 +19,7 @@ pub struct Names {
 }
 
 /// The numbers of a list.
-fn numbers<T: FromStr>(term: &Term) -> Option<Vec<T>> {
+pub fn numbers<T: FromStr>(term: &Term) -> Option<Vec<T>> {
     let number = |item: &Term| item.words()?.concat().parse().ok();
     term.items()?.iter().map(number).collect()
 }

@@ -1,8 +1,9 @@
 //! The tables of the rules, which are proved there by computing. A table is read as `NAME : QUESTIONS ≡ VALUES`, with the questions
-//! `order INSTANCE`, `solved INSTANCE LIMIT` for the sum, or `found INSTANCE LIMIT` for the longest duty. Of the rest of these files only
-//! instances and numbers are read.
+//! `order INSTANCE`, `solved INSTANCE LIMIT` for the sum, or `found INSTANCE LIMIT` for the longest duty; with lists of agreed and absent
+//! columns `solvedWith INSTANCE LIMIT AGREED ABSENT` and `foundWith INSTANCE LIMIT AGREED ABSENT`. Of the rest of these files only instances
+//! and numbers are read.
 
-use super::names::Names;
+use super::names::{numbers, Names};
 use super::reader::{statements, texts, Reader, Token};
 use super::terms::{Form, Term};
 use super::text;
@@ -10,6 +11,7 @@ use crate::answers::{Answer, BEST, NONE};
 use crate::files::Columns;
 use crate::goal::Goal;
 use crate::plain;
+use crate::requests::Requests;
 
 /// The files of the rules that hold tables, and the names of these.
 const TABLES: [(&str, &[&str]); 3] = [
@@ -22,8 +24,8 @@ const TABLES: [(&str, &[&str]); 3] = [
 pub enum Question {
     /// The rows in the sequence that reducing uses them.
     Order,
-    /// The answer of the search for a goal within a node limit.
-    Search(Goal, u32),
+    /// The answer of the search for a goal within a node limit, with lists of agreed and absent columns.
+    Search { goal: Goal, limit: u32, agreed: Vec<u16>, absent: Vec<u16> },
 }
 
 /// A place of a table: an instance, what is asked, and the value that is stored, with its line.
@@ -63,15 +65,15 @@ impl Place {
     /// The value, worked out anew.
     pub fn remade(&self) -> String {
         let file = self.columns.file();
-        match self.question {
+        match &self.question {
             Question::Order => {
                 let mut order = [0; 64];
                 let answer = plain::reduce(&file, &mut [0; 256], &mut order);
                 list(&order[..answer.used as usize])
             }
-            Question::Search(goal, limit) => {
+            Question::Search { goal, limit, agreed, absent } => {
                 let mut plan = [0; 64];
-                let answer = plain::search(goal, &file, limit, &mut plan);
+                let answer = plain::search_with(*goal, &file, *limit, Requests { agreed, absent }, &mut plan);
                 value(&answer, &plan[..answer.columns as usize])
             }
         }
@@ -83,7 +85,7 @@ impl Table {
     pub fn remade(&self) -> String {
         let enclosed = |place: &Place| match place.question {
             Question::Order => format!("({})", place.remade()),
-            Question::Search(..) => place.remade(),
+            Question::Search { .. } => place.remade(),
         };
         let lines: Vec<String> = self.places.iter().map(enclosed).collect();
         format!("    ({}\n    ∷ [])\n", lines.join("\n    ∷ "))
@@ -92,16 +94,22 @@ impl Table {
 
 /// What a place asks: the instance's name, and the question.
 fn question(term: &Term, names: &Names) -> Option<(String, Question)> {
-    let search = |goal: Goal, limit: &str| {
+    let Form::Apply(parts) = &term.form else { return None };
+    let words: Vec<&str> = parts.iter().map_while(Term::word).collect();
+    let lists: Vec<Vec<u16>> = parts[words.len()..].iter().map(numbers).collect::<Option<_>>()?;
+    let search = |goal: Goal, limit: &str, agreed: &[u16], absent: &[u16]| {
         let limit = names.numbers.get(limit).copied().or_else(|| limit.parse().ok())?;
-        Some(Question::Search(goal, limit))
+        Some(Question::Search { goal, limit, agreed: agreed.to_vec(), absent: absent.to_vec() })
     };
-    match term.words()?[..] {
-        ["order", name] => Some((name.to_string(), Question::Order)),
-        ["solved", name, limit] => Some((name.to_string(), search(Goal::Sum, limit)?)),
-        ["found", name, limit] => Some((name.to_string(), search(Goal::Longest, limit)?)),
-        _ => None,
-    }
+    let asked = match (&words[..], &lists[..]) {
+        (["order", _], []) => Question::Order,
+        (["solved", _, limit], []) => search(Goal::Sum, limit, &[], &[])?,
+        (["found", _, limit], []) => search(Goal::Longest, limit, &[], &[])?,
+        (["solvedWith", _, limit], [agreed, absent]) => search(Goal::Sum, limit, agreed, absent)?,
+        (["foundWith", _, limit], [agreed, absent]) => search(Goal::Longest, limit, agreed, absent)?,
+        _ => return None,
+    };
+    Some((words[1].to_string(), asked))
 }
 
 fn place(file: &str, asked: &Term, stored: &Term, names: &Names) -> Result<Place, String> {

@@ -34,7 +34,7 @@ impl Term {
         }
     }
 
-    fn word(&self) -> Option<&str> {
+    pub fn word(&self) -> Option<&str> {
         match &self.form {
             Form::Word(word) => Some(word),
             _ => None,

@@ -1,0 +1,34 @@
+//! The lists of 02, P2: their refusals, and what the root does with them.
+
+use super::file::{rising, Duties};
+use super::matrix::Matrix;
+use super::node::{Node, FREE, OUT};
+use crate::goal::Goal;
+use crate::requests::Requests;
+
+/// The refusal of the lists, if there is one: 14 for the agreed one, then 15 for the absent one.
+pub fn refusal(requests: Requests, duties: &Duties) -> Option<u32> {
+    let is_faulty = |list: &[u16]| !rising(list.iter().map(|&column| column as usize), duties.columns());
+    if is_faulty(requests.agreed) {
+        return Some(14);
+    }
+    is_faulty(requests.absent).then_some(15)
+}
+
+impl Node {
+    /// The absent columns stop being free, then the agreed ones are taken in list sequence. False if one of these is not free at its turn:
+    /// the root is dead.
+    pub fn grant(&mut self, matrix: &Matrix, goal: Goal, requests: Requests) -> bool {
+        for &column in requests.absent {
+            self.marks[column as usize - 1] = OUT;
+        }
+        for &column in requests.agreed {
+            let column = column as usize - 1;
+            if self.marks[column] != FREE {
+                return false;
+            }
+            self.take(matrix, goal, column);
+        }
+        true
+    }
+}
