@@ -14,10 +14,11 @@ use crate::plain;
 use crate::requests::Requests;
 
 /// The files of the rules that hold tables, and the names of these.
-const TABLES: [(&str, &[&str]); 3] = [
+const TABLES: [(&str, &[&str]); 4] = [
     ("crates/rules/specs/Files.antt", &["files"]),
     ("crates/rules/specs/Cases.antt", &["orders", "cases"]),
     ("crates/rules/specs/LongestCases.antt", &["longestCases"]),
+    ("crates/rules/specs/RequestCases.antt", &["requestCases"]),
 ];
 
 /// What a place of a table asks of an instance.
