@@ -1,7 +1,7 @@
 -- The columns that are left to be left, or to be taken, from a place on give what all of them give.
 use mathlib.Core.Path.{_≡_, refl, ap, sym, _∙_}
-use mathlib.Core.Bool.{Bool, true, false, cond}
-use mathlib.Core.List.{List, [], _∷_, map}
+use mathlib.Core.Bool.{cond}
+use mathlib.Core.List.{List, [], _∷_}
 use Prim.Native.Nat.{ℕ, _+_, _-_, _≤_, _<_}
 use native.Mathlib.Omega.{arith}
 use lib.ListN.{length, getD, drop, drop-of-length-le}
@@ -17,7 +17,6 @@ use Rattle.rules.specs.Tree.{Variant, live, dead}
 use Rattle.rules.specs.Agreed.{without, withAll, agreedStart}
 use Rattle.rules.specs.Requests.{Requests, columnsOf, begun}
 use Rattle.rules.specs.Goals.{searchFor}
-use Rattle.rules.proofs.Plans.{Free}
 use Rattle.rules.proofs.Agreed.{without-good}
 use Rattle.rules.proofs.Goals.{WorkableFor, goal-steps}
 use Rattle.goals.specs.Taking.{Takes}

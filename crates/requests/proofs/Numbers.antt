@@ -1,11 +1,10 @@
 -- Numbers from 1 to n are those of columns below n.
 use mathlib.Core.Path.{_≡_}
 use mathlib.Core.Bool.{true, false≢true}
-use mathlib.Core.List.{List, [], _∷_, map}
+use mathlib.Core.List.{List, [], _∷_}
 use mathlib.Core.Logic.{⊎-elim}
-use Prim.Native.Nat.{ℕ, suc, _-_, _≤_, _<_}
+use Prim.Native.Nat.{ℕ, suc, _-_, _<_}
 use native.Mathlib.Omega.{arith}
-use lib.ListN.{length, getD}
 use Rattle.node.specs.Lists.{member}
 use Rattle.rules.specs.Requests.{columnsOf}
 use Rattle.node.proofs.Members.{member-cases}

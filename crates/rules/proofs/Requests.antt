@@ -6,14 +6,14 @@ use mathlib.Core.List.{List}
 use Prim.Native.Nat.{ℕ, _≤_, _<_}
 use Rattle.node.specs.declared.Node.{Node}
 use Rattle.node.specs.Lists.{member}
-use Rattle.node.specs.Matrix.{Matrix, covers, IsPlan, price}
+use Rattle.node.specs.Matrix.{Matrix, covers, IsPlan}
 use Rattle.node.specs.Node.{root}
 use Rattle.node.specs.Stored.{matrixIn, FitsNode}
 use Rattle.rules.specs.declared.Forced.{Forced}
 use Rattle.rules.specs.declared.Goal.{Goal}
 use Rattle.rules.specs.declared.Goal.the-variants.{Sum, Longest}
 use Rattle.rules.specs.Search.{none}
-use Rattle.rules.specs.Tree.{Variant, sum, live, answer}
+use Rattle.rules.specs.Tree.{Variant, live, answer}
 use Rattle.rules.specs.Demand.{Demand3}
 use Rattle.rules.specs.Longest.{topped, dearest, longest, byFloor}
 use Rattle.rules.specs.Goals.{searchFor, valueFor}
@@ -35,15 +35,20 @@ pub record Askable (p : Matrix) (q : Requests) : Type 0 where
   pub absent : Inside p (columnsOf (q .absent))
   pub distinct : Distinct (columnsOf (q .agreed))
 
+-- what holds of every node, and the laws of the search from the root
+goal-laws : (g : Goal) (p : Matrix) → FitsNode p → (cs : List ℕ)
+    → (Good : Node → Type 0) × Laws p (searchFor g p) (live (root p cs)) (IsPlan p) (valueFor g p cs) Good
+unfolding searchFor valueFor
+goal-laws Sum p F cs = (Good p cs, sum-laws p F cs)
+goal-laws Longest p F cs = (High p cs, longest-laws p F cs)
+
 pub goal-demand-3 : (g : Goal) (p : Matrix) → FitsNode p → (cs : List ℕ) (q : Requests) → Askable p q → (limit : ℕ)
     → let start : Forced = begun (searchFor g p) p q (root p cs) in
     Demand3 p (searchFor g p) start (Granted p q) (valueFor g p cs) limit (answer (searchFor g p) p start limit)
-unfolding searchFor valueFor begun
-goal-demand-3 Sum p F cs q a =
-    agreed-demand-3 p F (sum p) (IsPlan p) (price p cs) (Good p cs) (root p cs) (sum-laws p F cs) (columnsOf (q .agreed))
-    (columnsOf (q .absent)) (a .agreed) (a .absent) (a .distinct) (root-free p F cs)
-goal-demand-3 Longest p F cs q a =
-    agreed-demand-3 p F (longest p) (IsPlan p) (dearest p cs) (High p cs) (root p cs) (longest-laws p F cs) (columnsOf (q .agreed))
+unfolding begun
+goal-demand-3 g p F cs q a =
+    let L = goal-laws g p F cs in
+    agreed-demand-3 p F (searchFor g p) (IsPlan p) (valueFor g p cs) (L .0) (root p cs) (L .1) (columnsOf (q .agreed))
     (columnsOf (q .absent)) (a .agreed) (a .absent) (a .distinct) (root-free p F cs)
 
 pub begun-workable : (g : Goal) (l cs : List ℕ) (q : Requests) → Askable (matrixIn l) q → WorkableFor g l (root (matrixIn l) cs)
@@ -63,25 +68,19 @@ module _ (p : Matrix) (F : FitsNode p) (cs : List ℕ) (q : Requests) (a : Askab
   -- a column in both lists: no plan, and one node
   pub goal-both-none : (g : Goal) (j : ℕ) → member j (columnsOf (q .agreed)) ≡ true → member j (columnsOf (q .absent)) ≡ true
       → answer (searchFor g p) p (begun (searchFor g p) p q (root p cs)) limit ≡ none 1
-  unfolding searchFor begun
-  goal-both-none Sum =
-      both-none p F (sum p) (IsPlan p) (Good p cs) (sum-laws p F cs .steps) _ _ (a .agreed) (a .absent) (root p cs)
-      (sum-laws p F cs .start-good refl) limit one
-  goal-both-none Longest =
-      both-none p F (longest p) (IsPlan p) (High p cs) (longest-laws p F cs .steps) _ _ (a .agreed) (a .absent) (root p cs)
-      (longest-laws p F cs .start-good refl) limit one
+  unfolding begun
+  goal-both-none g =
+      let L = goal-laws g p F cs in
+      both-none p F (searchFor g p) (IsPlan p) (L .0) (L .1 .steps) _ _ (a .agreed) (a .absent) (root p cs) (L .1 .start-good refl) limit one
 
   -- two agreed columns that share a row: the same
   pub goal-shared-none : (g : Goal) (j k : ℕ) → member j (columnsOf (q .agreed)) ≡ true → member k (columnsOf (q .agreed)) ≡ true
       → (k ≡ j → ⊥) → (i : ℕ) → i < p .rows → covers p i j ≡ true → covers p i k ≡ true
       → answer (searchFor g p) p (begun (searchFor g p) p q (root p cs)) limit ≡ none 1
-  unfolding searchFor begun
-  goal-shared-none Sum =
-      shared-none p F (sum p) (IsPlan p) (Good p cs) (sum-laws p F cs .steps) _ _ (a .agreed) (a .absent) (root p cs)
-      (sum-laws p F cs .start-good refl) limit one
-  goal-shared-none Longest =
-      shared-none p F (longest p) (IsPlan p) (High p cs) (longest-laws p F cs .steps) _ _ (a .agreed) (a .absent) (root p cs)
-      (longest-laws p F cs .start-good refl) limit one
+  unfolding begun
+  goal-shared-none g =
+      let L = goal-laws g p F cs in
+      shared-none p F (searchFor g p) (IsPlan p) (L .0) (L .1 .steps) _ _ (a .agreed) (a .absent) (root p cs) (L .1 .start-good refl) limit one
 
   -- for the longest duty: the search that works P1's floor out anew at each node answers the same
   pub requested-floor : answer (byFloor p cs) p (begun (byFloor p cs) p q (root p cs)) limit

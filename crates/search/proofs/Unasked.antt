@@ -3,7 +3,7 @@
 use mathlib.Core.Path.{_≡_, refl, ap}
 use mathlib.Core.List.{List}
 use Prim.Native.Nat.{ℕ}
-use Rattle.refusals.specs.Refusals.{Fault, fine, fault, ask, _then_, unless}
+use Rattle.refusals.specs.Refusals.{Fault, fine, fault, ask, _then_}
 use Rattle.node.specs.Matrix.{Matrix, Instance}
 use Rattle.node.specs.Node.{root}
 use Rattle.rules.specs.declared.Forced.{Forced}
@@ -14,7 +14,7 @@ use Rattle.rules.specs.Requests.{unasked}
 use Rattle.rules.proofs.Requests.{begun-none}
 use Rattle.dutyfile.specs.File.{parse, instance, shape}
 use Rattle.dutyfile.specs.Faults.{rising, fileFault}
-use Rattle.answer.specs.Answer.{valuesOf, planNumbers}
+use Rattle.answer.specs.Answer.{planNumbers}
 use Rattle.search.specs.Searching.{callFault, fileAnswer, searching, planList}
 use Rattle.search.specs.Longest.{longestAnswer, longestSearching, longestList}
 use Rattle.search.specs.Requests.{requestFault, faultWith, answerWith, searchingWith, planListWith}

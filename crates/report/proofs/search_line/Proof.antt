@@ -1,5 +1,5 @@
 -- The line of the call's answer with no lists is the line of the definitions' outcome.
-use mathlib.Core.Path.{_≡_, sym, _∙_}
+use mathlib.Core.Path.{_≡_, _∙_}
 use native.Mathlib.Omega.{arith}
 use lib.ListN.{length}
 use Rattle.answer.specs.Answer.{searchOutcome}
