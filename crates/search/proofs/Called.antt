@@ -23,7 +23,7 @@ use Rattle.rules.specs.Tree.{answer}
 use Rattle.rules.specs.Goals.{searchFor, valueFor}
 use Rattle.rules.specs.Requests.{Requests, begun, Granted}
 use Rattle.rules.proofs.Plans.{plan-short}
-use Rattle.rules.proofs.Goals.{goal-root}
+use Rattle.rules.proofs.Goals.{WorkableFor, goal-root}
 use Rattle.rules.proofs.Requests.{Askable, begun-workable}
 use Rattle.dutyfile.specs.declared.Shape.{Shape}
 use Rattle.dutyfile.specs.File.{parse, instance}
@@ -64,79 +64,86 @@ pub refused-demand : (g : Goal) (s : List ℕ) (limit : ℕ) (q : Requests) (why
 unfolding seen
 refused-demand g s limit q why list = λ x e. absurd (let z : _≡_ {A = ℕ} 0 1 = cc in omega arith)
 
+-- a file that is read, with its root, for a call that passes its tests
+pub record Rooted (s : List ℕ) (limit places : ℕ) (q : Requests) (found : Shape) (l : List ℕ) (first : Node) : Type 0 where
+  pub costs : List ℕ
+  pub file : Loaded s found l costs
+  pub fits : (callFault found places limit then requestFault found q) ≡ fine
+  pub is : first ≡ root (matrixIn l) costs
+
 module _ (g : Goal) (s : List ℕ) (limit places : ℕ) (q : Requests) where
   pub refused-file : (k : ℕ) → fileFault s ≡ fault k → refused k ≡ searchingFor g s limit q places
   unfolding searchingFor faultWith
   refused-file k h = unless-fault _ k (stops-at k _ h)
 
-  module _ (found : Shape) (l costs : List ℕ) (k : Loaded s found l costs) where
-    pub refused-call : (n : ℕ) → (callFault found places limit then requestFault found q) ≡ fault n → refused n ≡ searchingFor g s limit q places
-    unfolding searchingFor faultWith
-    refused-call n h = unless-fault _ n (goes-on _ (k .passes) ∙ rw (sym (k .shape-is)) at h)
+  pub refused-call : (found : Shape) (l costs : List ℕ) → Loaded s found l costs
+      → (n : ℕ) → (callFault found places limit then requestFault found q) ≡ fault n → refused n ≡ searchingFor g s limit q places
+  unfolding searchingFor faultWith
+  refused-call found l costs k n h = unless-fault _ n (goes-on _ (k .passes) ∙ rw (sym (k .shape-is)) at h)
 
-    module _ (fits : (callFault found places limit then requestFault found q) ≡ fine) (first : Node) (is : first ≡ root (matrixIn l) costs) where
-      fits-call : callFault found places limit ≡ fine
-      fits-call = both _ _ fits .0
+  module _ (found : Shape) (l : List ℕ) (first : Node) (w : Rooted s limit places q found l first) where
+    fits-call : callFault found places limit ≡ fine
+    fits-call = both _ _ (w .fits) .0
 
-      all-fine : faultWith s limit q places ≡ fine
-      unfolding faultWith
-      all-fine = goes-on _ (k .passes) ∙ rw (sym (k .shape-is)) at fits
+    fits-lists : requestFault found q ≡ fine
+    fits-lists = both _ _ (w .fits) .1
 
-      askable : Askable (matrixIn l) q
-      askable = listed (matrixIn l) found q (k .columns-is) (both _ _ fits .1)
+    all-fine : faultWith s limit q places ≡ fine
+    unfolding faultWith
+    all-fine = goes-on _ (w .file .passes) ∙ rw (sym (w .file .shape-is)) at (w .fits)
 
-      pub begins : Begins g l first q
-      begins =
-          let n = numbers (matrixIn l) found q (k .columns-is) (both _ _ fits .1) in
-          record { some = rw is (goal-root g l costs (k .workable)); agreed = n .0; absent = n .1 }
+    workable : WorkableFor g l (root (matrixIn l) (w .costs))
+    workable = goal-root g l (w .costs) (w .file .workable)
 
-      module _ (start : Forced) (starts : start ≡ begun (searchFor g (matrixIn l)) (matrixIn l) q first) where
-        pub searchable : Searchable g l (start .node) limit
-        unfolding callFault
-        searchable =
-            let h = ask-within 1 1000000 limit 11 (both _ _ fits-call .1) in
-            record {
-              some = rw (starts, is) (begun-workable g l costs q askable (goal-root g l costs (k .workable)));
-              one = h .least;
-              limited = h .most;
-            }
+    pub begins : Begins g l first q
+    begins =
+        let n = numbers (matrixIn l) found q (w .file .columns-is) fits-lists in
+        record { some = rw (w .is) workable; agreed = n .0; absent = n .1 }
 
-        module _ (done : Solved) (ends : solvedAnswer (width (matrixIn l)) done ≡ answer (searchFor g (matrixIn l)) (matrixIn l) start limit) where
-          answers : solvedAnswer (found .columns) done ≡ answerFor g s limit q
-          unfolding answerFor instance
-          answers = rw (← k .columns-is) (ends ∙ rw (starts, is ∙ k .root-is, k .is))
+    module _ (start : Forced) (starts : start ≡ begun (searchFor g (matrixIn l)) (matrixIn l) q first) where
+      pub searchable : Searchable g l (start .node) limit
+      unfolding callFault
+      searchable =
+          let h = ask-within 1 1000000 limit 11 (both _ _ fits-call .1) in
+          let a : Askable (matrixIn l) q = listed (matrixIn l) found q (w .file .columns-is) fits-lists in
+          record { some = rw (starts, w .is) (begun-workable g l (w .costs) q a workable); one = h .least; limited = h .most }
 
-          small : Small (instance (parse s) .matrix)
-          small = rw (k .is) at (k .kept .small)
+      module _ (done : Solved) (ends : solvedAnswer (width (matrixIn l)) done ≡ answer (searchFor g (matrixIn l)) (matrixIn l) start limit) where
+        answers : solvedAnswer (found .columns) done ≡ answerFor g s limit q
+        unfolding answerFor instance
+        answers = rw (← w .file .columns-is) (ends ∙ rw (starts, w .is ∙ w .file .root-is, w .file .is))
 
-          demand : DemandFor g s limit q (answerFor g s limit q)
-          demand = demanded g s limit q places all-fine
+        small : Small (instance (parse s) .matrix)
+        small = rw (w .file .is) at (w .file .kept .small)
 
-          pub plan-fits : PlanFits done (found .columns) places
-          unfolding callFault instance
-          plan-fits = record {
-            wide = omega (arith, k .columns-is, k .kept .small .fits .wide);
-            room = λ h.
-                let p : Matrix = instance (parse s) .matrix in
-                let js : List ℕ = takenIn (found .columns) (done .tally .plan) in
-                let e : shownBy (answerFor g s limit q) ≡ plan (done .tally .cost) js = rw answers at (kept-shown (found .columns) done h) in
-                let w : Shows p (Granted p q) (valueFor g p (parse s .costs)) (done .tally .cost) js = demand .shown _ _ e in
-                let r : found .rows ≤ places = leb-true _ _ (asked _ 10 (both _ _ fits-call .0)) in
-                omega (arith, plan-short p (some-row p small) js (w .listed) (w .ok .ok), rw (k .is) at (k .rows-is), r);
-          }
+        demand : DemandFor g s limit q (answerFor g s limit q)
+        demand = demanded g s limit q places all-fine
 
-          module _ (r : SearchAnswer) (told : searchOutcome r ≡ accepted (valuesOf (solvedAnswer (found .columns) done))) where
-            pub given-answer : searchOutcome r ≡ searchingFor g s limit q places
-            unfolding searchingFor faultWith
-            given-answer = told ∙ rw answers (unless-fine (valuesOf (answerFor g s limit q)) all-fine)
+        pub plan-fits : PlanFits done (found .columns) places
+        unfolding callFault instance
+        plan-fits = record {
+          wide = omega (arith, w .file .columns-is, w .file .kept .small .fits .wide);
+          room = λ h.
+              let p : Matrix = instance (parse s) .matrix in
+              let js : List ℕ = takenIn (found .columns) (done .tally .plan) in
+              let e : shownBy (answerFor g s limit q) ≡ plan (done .tally .cost) js = rw answers at (kept-shown (found .columns) done h) in
+              let x : Shows p (Granted p q) (valueFor g p (parse s .costs)) (done .tally .cost) js = demand .shown _ _ e in
+              let r : found .rows ≤ places = leb-true _ _ (asked _ 10 (both _ _ fits-call .0)) in
+              omega (arith, plan-short p (some-row p small) js (x .listed) (x .ok .ok), rw (w .file .is) at (w .file .rows-is), r);
+        }
 
-            pub given-plan : (new old : List ℕ) → new ≡ front (planNumbers (shownBy (solvedAnswer (found .columns) done))) old →
-                new ≡ filled (searchOutcome r) (listFor g s limit q) old
-            unfolding listFor
-            given-plan new old h = rw answers at h ∙ sym (fills _ (listFor g s limit q) old told)
+        module _ (r : SearchAnswer) (told : searchOutcome r ≡ accepted (valuesOf (solvedAnswer (found .columns) done))) where
+          pub given-answer : searchOutcome r ≡ searchingFor g s limit q places
+          unfolding searchingFor
+          given-answer = told ∙ rw answers (unless-fine (valuesOf (answerFor g s limit q)) all-fine)
 
-          pub given-demand : (r : SearchAnswer) (list : List ℕ) → seen r list ≡ accepted (solvedAnswer (found .columns) done) → Demanded g s limit q r list
-          given-demand r list h = λ x w.
-              let z : accepted x ≡ accepted (answerFor g s limit q) = sym w ∙ rw answers at h in
-              let y : answerFor g s limit q ≡ x = cc in
-              rw y at demand
+          pub given-plan : (new old : List ℕ) → new ≡ front (planNumbers (shownBy (solvedAnswer (found .columns) done))) old →
+              new ≡ filled (searchOutcome r) (listFor g s limit q) old
+          unfolding listFor
+          given-plan new old h = rw answers at h ∙ sym (fills _ (listFor g s limit q) old told)
+
+        pub given-demand : (r : SearchAnswer) (list : List ℕ) → seen r list ≡ accepted (solvedAnswer (found .columns) done) → Demanded g s limit q r list
+        given-demand r list h = λ x e.
+            let z : accepted x ≡ accepted (answerFor g s limit q) = sym e ∙ rw answers at h in
+            let y : answerFor g s limit q ≡ x = cc in
+            rw y at demand

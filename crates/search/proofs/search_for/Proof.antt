@@ -2,9 +2,11 @@
 use mathlib.Core.Path.{refl, sym}
 use Rattle.refusals.specs.Refusals.{filled}
 use Rattle.refusals.proofs.Laws.{failed, passed}
+use lib.ListN.{length}
+use Rattle.rules.specs.Requests.{asking}
 use Rattle.lists.specs.Loaded.{Loaded}
 use Rattle.answer.specs.Answer.{searchOutcome}
-use Rattle.search.proofs.Called.{refused-demand, refused-file, refused-call, begins, searchable, plan-fits, given-answer}
+use Rattle.search.proofs.Called.{refused-demand, Rooted, refused-file, refused-call, begins, searchable, plan-fits, given-answer}
 use Rattle.search.proofs.Called.{given-plan, given-demand}
 use Rattle.lists.proofs.Read.{file-refused}
 use borrow.Author.Needs.{needs}
@@ -16,6 +18,23 @@ loaded : (c : tie.After-found2) →
     let k = c .before .before in
     Loaded (k .before .before .before .before .before .before .before .before .before .args .file .now) (c .found2 .given .0 .0) (k .read-matrix .last .1 .0) (k .read-matrix .last .1 .1 .0)
 loaded c = c .before .before .read-matrix .ensures .1 .1 .1 _ (c .found2 .given .1)
+
+-- the root, where the tests pass
+rooted : (c : tie.After-root-node) →
+    let f = c .before .before .before .before .before .before in
+    let k = f .before .before in
+    let a = k .before .before .before .before .before .before .before .before .before .args in
+    Rooted (a .file .now) (a .limit) (length (a .plan .now)) (asking (a .agreed .now) (a .absent .now)) (f .found2 .given .0 .0)
+    (k .read-matrix .last .1 .0) (c .root-node .result)
+rooted c =
+    let t = c .before .before in
+    let l = t .before .before in
+    record {
+      costs = _;
+      file = loaded (l .before .before);
+      fits = passed (l .check-call .ensures) (t .enum-told .given .1);
+      is = c .root-node .ensures;
+    }
 
 no-cells-requires : tie.Need-no-cells-requires
 no-cells-requires c κs = search needs
@@ -51,11 +70,7 @@ slice-aggregate-begin : tie.Need-slice-aggregate-begin
 slice-aggregate-begin c = sym (loaded (c .before .before .before .before .before .before .before) .long)
 
 begin-requires : tie.Need-begin-requires
-begin-requires c κs =
-    let n = c .before in
-    let t = n .before .before in
-    let l = t .before .before in
-    begins _ _ _ _ _ _ _ _ (loaded (l .before .before)) (passed (l .check-call .ensures) (t .enum-told .given .1)) _ (n .root-node .ensures)
+begin-requires c κs = begins _ _ _ _ _ _ _ _ (rooted (c .before))
 
 slice-aggregate-search-from : tie.Need-slice-aggregate-search-from
 slice-aggregate-search-from c =
@@ -64,21 +79,13 @@ slice-aggregate-search-from c =
 search-from-requires : tie.Need-search-from-requires
 search-from-requires c κs =
     let b = c .before in
-    let n = b .before .before in
-    let t = n .before .before in
-    let l = t .before .before in
-    searchable _ _ _ _ _ _ _ _ (loaded (l .before .before)) (passed (l .check-call .ensures) (t .enum-told .given .1)) _ (n .root-node .ensures)
-    _ (b .begin .ensures)
+    searchable _ _ _ _ _ _ _ _ (rooted (b .before .before)) _ (b .begin .ensures)
 
 give-requires : tie.Need-give-requires
 give-requires c κs =
     let d = c .before in
     let b = d .before .before in
-    let n = b .before .before in
-    let t = n .before .before in
-    let l = t .before .before in
-    plan-fits _ _ _ _ _ _ _ _ (loaded (l .before .before)) (passed (l .check-call .ensures) (t .enum-told .given .1)) _ (n .root-node .ensures)
-    _ (b .begin .ensures) _ (d .search-from .ensures)
+    plan-fits _ _ _ _ _ _ _ _ (rooted (b .before .before)) _ (b .begin .ensures) _ (d .search-from .ensures)
 
 returns : tie.Need-returns
 unfolding searchOutcome filled
@@ -100,18 +107,13 @@ returns-3 c =
     let g = c .before .before in
     let d = g .before .before in
     let b = d .before .before in
-    let n = b .before .before in
-    let t = n .before .before in
-    let l = t .before .before in
-    let k = loaded (l .before .before) in
-    let p = passed (l .check-call .ensures) (t .enum-told .given .1) in
-    let r = n .root-node .ensures in
+    let w = rooted (b .before .before) in
     let i = b .begin .ensures in
     let x = d .search-from .result in
     let e = d .search-from .ensures in
     let h = g .give .ensures in (
-      given-answer _ _ _ _ _ _ _ _ k p _ r _ i x e _ (h .0),
-      (given-plan _ _ _ _ _ _ _ _ k p _ r _ i x e _ (h .0) _ _ (h .1 .0), given-demand _ _ _ _ _ _ _ _ k p _ r _ i x e _ _ (h .1 .1)),
+      given-answer _ _ _ _ _ _ _ _ w _ i x e _ (h .0),
+      (given-plan _ _ _ _ _ _ _ _ w _ i x e _ (h .0) _ _ (h .1 .0), given-demand _ _ _ _ _ _ _ _ w _ i x e _ _ (h .1 .1)),
     )
 
 pub search-for-spec : {M : Type 1} → statement M
