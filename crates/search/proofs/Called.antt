@@ -40,7 +40,7 @@ use Rattle.answer.specs.Answer.{searchOutcome, valuesOf, planNumbers, seen}
 use Rattle.answer.specs.Plan.{PlanFits}
 use Rattle.answer.proofs.Given.{kept-shown}
 use Rattle.search.specs.Searching.{callFault}
-use Rattle.search.specs.Requests.{requestFault, faultWith}
+use Rattle.search.specs.Requests.{requestFault, callFaultWith, faultWith}
 use Rattle.search.specs.Goals.{answerFor, searchingFor, listFor, DemandFor}
 use Rattle.search.proofs.Listed.{numbers, listed}
 use Rattle.search.proofs.Demanded.{demanded}
@@ -68,7 +68,7 @@ refused-demand g s limit q why list = λ x e. absurd (let z : _≡_ {A = ℕ} 0 
 pub record Rooted (s : List ℕ) (limit places : ℕ) (q : Requests) (found : Shape) (l : List ℕ) (first : Node) : Type 0 where
   pub costs : List ℕ
   pub file : Loaded s found l costs
-  pub fits : (callFault found places limit then requestFault found q) ≡ fine
+  pub fits : callFaultWith found places limit q ≡ fine
   pub is : first ≡ root (matrixIn l) costs
 
 module _ (g : Goal) (s : List ℕ) (limit places : ℕ) (q : Requests) where
@@ -77,15 +77,17 @@ module _ (g : Goal) (s : List ℕ) (limit places : ℕ) (q : Requests) where
   refused-file k h = unless-fault _ k (stops-at k _ h)
 
   pub refused-call : (found : Shape) (l costs : List ℕ) → Loaded s found l costs
-      → (n : ℕ) → (callFault found places limit then requestFault found q) ≡ fault n → refused n ≡ searchingFor g s limit q places
+      → (n : ℕ) → callFaultWith found places limit q ≡ fault n → refused n ≡ searchingFor g s limit q places
   unfolding searchingFor faultWith
   refused-call found l costs k n h = unless-fault _ n (goes-on _ (k .passes) ∙ rw (sym (k .shape-is)) at h)
 
   module _ (found : Shape) (l : List ℕ) (first : Node) (w : Rooted s limit places q found l first) where
     fits-call : callFault found places limit ≡ fine
+    unfolding callFaultWith
     fits-call = both _ _ (w .fits) .0
 
     fits-lists : requestFault found q ≡ fine
+    unfolding callFaultWith
     fits-lists = both _ _ (w .fits) .1
 
     all-fine : faultWith s limit q places ≡ fine

@@ -11,13 +11,13 @@ use Rattle.rules.proofs.Requests.{goal-demand-3}
 use Rattle.dutyfile.specs.File.{parse, instance, shape}
 use Rattle.dutyfile.proofs.Facts.{Accepted, file-fine}
 use Rattle.matrix.proofs.Accepted.{file-small, file-wide}
-use Rattle.search.specs.Requests.{faultWith}
+use Rattle.search.specs.Requests.{callFaultWith, faultWith}
 use Rattle.search.specs.Goals.{answerFor, DemandFor}
 use Rattle.search.proofs.Listed.{listed}
 
 pub demanded : (g : Goal) (s : List ℕ) (limit : ℕ) (q : Requests) (places : ℕ) → faultWith s limit q places ≡ fine
     → DemandFor g s limit q (answerFor g s limit q)
-unfolding faultWith answerFor shape instance
+unfolding callFaultWith faultWith answerFor shape instance
 demanded g s limit q places h =
     let b = both _ _ h in
     let a : Accepted s = file-fine s (b .0) in

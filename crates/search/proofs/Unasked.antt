@@ -17,7 +17,7 @@ use Rattle.dutyfile.specs.Faults.{rising, fileFault}
 use Rattle.answer.specs.Answer.{planNumbers}
 use Rattle.search.specs.Searching.{callFault, fileAnswer, searching, planList}
 use Rattle.search.specs.Longest.{longestAnswer, longestSearching, longestList}
-use Rattle.search.specs.Requests.{requestFault, faultWith, answerWith, searchingWith, planListWith}
+use Rattle.search.specs.Requests.{requestFault, callFaultWith, faultWith, answerWith, searchingWith, planListWith}
 use Rattle.search.specs.Requests.{longestAnswerWith, longestSearchingWith, longestListWith}
 
 then-fine : (a b : Fault) → (a then b then fine) ≡ (a then b)
@@ -35,7 +35,7 @@ module _ (file : List ℕ) (limit : ℕ) where
 
   -- the tests
   faults : (places : ℕ) → faultWith file limit unasked places ≡ (fileFault file then callFault (shape file) places limit)
-  unfolding faultWith requestFault rising ask _then_
+  unfolding faultWith callFaultWith requestFault rising ask _then_
   faults places = then-fine (fileFault file) (callFault (shape file) places limit)
 
   -- the search

@@ -18,9 +18,13 @@ use Rattle.search.specs.Searching.{callFault}
 unfoldable pub requestFault : Shape → Requests → Fault
 requestFault found q = ask (rising 0 (found .columns) (q .agreed)) 14 then ask (rising 0 (found .columns) (q .absent)) 15
 
--- all tests of a call on a file, in sequence, where the lent plan list holds so many places
+-- 10, 11, 14, 15: where the lent plan list holds so many places
+unfoldable pub callFaultWith : Shape → ℕ → ℕ → Requests → Fault
+callFaultWith found places limit q = callFault found places limit then requestFault found q
+
+-- all tests of a call on a file, in sequence
 unfoldable pub faultWith : List ℕ → ℕ → Requests → ℕ → Fault
-faultWith file limit q places = fileFault file then callFault (shape file) places limit then requestFault (shape file) q
+faultWith file limit q places = fileFault file then callFaultWith (shape file) places limit q
 
 -- the rules' answer for a file
 unfoldable pub answerWith : List ℕ → ℕ → Requests → Answer

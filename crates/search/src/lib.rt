@@ -9,7 +9,7 @@ use refusals::Refusal;
 use rules::Goal;
 ghost use mathlib.Core.Path.{_≡_};
 ghost use lib.ListN.{length};
-ghost use Rattle.refusals.specs.Refusals.{faultOf, _then_, accepted, filled};
+ghost use Rattle.refusals.specs.Refusals.{faultOf, accepted, filled};
 ghost use Rattle.node.specs.Matrix.{Matrix, Instance, price};
 ghost use Rattle.node.specs.Node.{root};
 ghost use Rattle.rules.specs.Search.{Answer};
@@ -19,8 +19,8 @@ ghost use Rattle.rules.specs.Longest.{dearest, longest};
 ghost use Rattle.rules.specs.Requests.{Requests, asking, begun, Granted};
 ghost use Rattle.dutyfile.specs.File.{parse, instance};
 ghost use Rattle.answer.specs.Answer.{searchOutcome, seen};
-ghost use Rattle.search.specs.Searching.{callFault};
-ghost use Rattle.search.specs.Requests.{requestFault, searchingWith, planListWith, longestSearchingWith, longestListWith};
+ghost use Rattle.search.specs.Requests.{requestFault, callFaultWith, searchingWith, planListWith, longestSearchingWith};
+ghost use Rattle.search.specs.Requests.{longestListWith};
 ghost use Rattle.search.specs.Goals.{searchingFor, listFor, DemandFor};
 
 // 14 for the agreed columns, then 15 for the absent ones.
@@ -38,7 +38,7 @@ fn check_requests(found: Shape, agreed: &[u16], absent: &[u16]) -> Check
 
 // 10 for a plan list of so many places, then 11, then 14 and 15.
 fn check_call(found: Shape, places: usize, limit: u32, agreed: &[u16], absent: &[u16]) -> Check
-    ensures { λ r. ⌜ faultOf r ≡ (callFault found places limit then requestFault found (asking (now (agreed .entry)) (now (absent .entry)))) ⌝ }
+    ensures { λ r. ⌜ faultOf r ≡ callFaultWith found places limit (asking (now (agreed .entry)) (now (absent .entry))) ⌝ }
 {
     if places < found.rows {
         return Check::Failed(Refusal::Room);

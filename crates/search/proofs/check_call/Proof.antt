@@ -3,26 +3,27 @@ use borrow.Author.Needs.{needs}
 use borrow.Author.Tests.{le-leb, lt-leb}
 use Rattle.refusals.specs.Refusals.{faultOf, ask, _then_}
 use Rattle.search.specs.Searching.{callFault}
+use Rattle.search.specs.Requests.{callFaultWith}
 use Rattle.search.proofs.check_call.Statement.{statement}
 use Rattle.search.proofs.check_call.Tie as tie
 
 returns : tie.Need-returns
-unfolding faultOf callFault ask _then_
+unfolding faultOf callFaultWith callFault ask _then_
 returns c = simp (callFault, lt-leb _ _ (c .if1 .taken))
 
 returns-2 : tie.Need-returns-2
-unfolding faultOf callFault ask _then_
+unfolding faultOf callFaultWith callFault ask _then_
 returns-2 c = simp (callFault, le-leb _ _ (c .before .if1 .left), lt-leb _ _ (c .if2 .taken))
 
 returns-3 : tie.Need-returns-3
-unfolding faultOf callFault ask _then_
+unfolding faultOf callFaultWith callFault ask _then_
 returns-3 c = simp (callFault, le-leb _ _ (c .before .before .if1 .left), le-leb _ _ (c .before .if2 .left), lt-leb _ _ (c .if3 .taken))
 
 check-requests-requires : tie.Need-check-requests-requires
 check-requests-requires c κs = search needs
 
 returns-4 : tie.Need-returns-4
-unfolding callFault ask _then_
+unfolding callFaultWith callFault ask _then_
 returns-4 c =
     let f = c .before in
     rw (c .check-requests .ensures)
