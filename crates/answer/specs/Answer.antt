@@ -1,9 +1,10 @@
 -- The search call's answer in 01's terms, and as the call's result and its plan list show it.
 use mathlib.Core.List.{List, [], map}
-use Prim.Native.Nat.{ℕ, suc, _-_}
+use Prim.Native.Nat.{ℕ, suc}
 use lib.ListN.{length, take}
 use Rattle.refusals.specs.Refusals.{Outcome, accepted, refused, numberOf}
 use Rattle.rules.specs.Search.{Incumbent, nothing, plan, Answer, best, none, stopped}
+use Rattle.rules.specs.Requests.{columnsOf}
 use Rattle.answer.specs.declared.SearchAnswer.{SearchAnswer}
 use Rattle.answer.specs.declared.SearchAnswer.the-variants.{Best, None, Stopped, StoppedWith, Refused}
 
@@ -43,7 +44,7 @@ planNumbers (plan c js) = map suc js
 
 -- the plan that a list shows: its first n places, numbered from 1
 unfoldable pub listed : ℕ → List ℕ → List ℕ
-listed n list = map (λ j. j - 1) (take n list)
+listed n list = columnsOf (take n list)
 
 -- the answer as a reader of the call's result and of the plan list afterwards sees it
 unfoldable pub seen : SearchAnswer → List ℕ → Outcome Answer

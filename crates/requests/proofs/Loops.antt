@@ -21,7 +21,7 @@ use Rattle.rules.proofs.Agreed.{without-good}
 use Rattle.rules.proofs.Goals.{WorkableFor, goal-steps}
 use Rattle.goals.specs.Taking.{Takes}
 use Rattle.requests.specs.Numbers.{Numbers, Takeable, Begins}
-use Rattle.requests.proofs.Numbers.{numbers-inside}
+use Rattle.requests.proofs.Numbers.{numbers-inside, numbers-low}
 
 -- the columns of a list from place k on
 abbrev rest : List ℕ → ℕ → List ℕ
@@ -106,7 +106,7 @@ module _ (g : Goal) (l js : List ℕ) (s₀ s : Node) (k : ℕ) (w : Taking g l 
 -- the absent columns left, then the agreed ones taken
 module _ (g : Goal) (l : List ℕ) (s : Node) (q : Requests) (b : Begins g l s q) where
   pub begins-absent : Numbers 256 (q .absent)
-  begins-absent k h = (b .absent k h .0, omega (arith, b .absent k h .1, b .some .kept .small .fits .wide))
+  begins-absent = numbers-low _ (q .absent) (b .absent) (b .some .kept .small .fits .wide)
 
   pub begins-takeable : (t : Node) → t ≡ without (columnsOf (q .absent)) s → Takeable g l t (q .agreed)
   begins-takeable t e = record {

@@ -4,6 +4,7 @@ use native.Mathlib.Omega.{arith}
 use lib.ListN.{length, getD}
 use Rattle.goals.specs.Taking.{Takes}
 use Rattle.goals.proofs.Taking.{takes-room, takes-column, takes-low, takes-is}
+use Rattle.requests.proofs.Numbers.{numbers-low}
 use Rattle.requests.proofs.Loops.{Taking, taking-start, taking-dead, taking-takes, taking-next, taking-end}
 use Rattle.requests.proofs.take_all.Statement.{statement}
 use Rattle.requests.proofs.take_all.Tie as tie
@@ -31,9 +32,8 @@ range : (c : tie.In-loop Inv-loop μ-loop) →
     let n = getD (c .before .before .before .before .args .numbers .now) (c .before .loop .k) 0 in
     (1 ≤ n) × (n ≤ 256)
 range c =
-    let p = c .before .before .before .before .pre in
-    let n = p .numbered _ (c .loop-test .taken) in
-    (n .0, omega (arith, n .1, p .some .kept .small .fits .wide))
+    let s = c .before .before .before .before in
+    numbers-low _ (s .args .numbers .now) (s .pre .numbered) (s .pre .some .kept .small .fits .wide) _ (c .loop-test .taken)
 
 sub-j : tie.Need-sub-j Inv-loop μ-loop
 sub-j c = range (c .before) .0

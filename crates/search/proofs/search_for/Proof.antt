@@ -67,14 +67,13 @@ root-node-requires : tie.Need-root-node-requires
 root-node-requires c κs = loaded (c .before .before .before .before .before) .kept
 
 slice-aggregate-begin : tie.Need-slice-aggregate-begin
-slice-aggregate-begin c = sym (loaded (c .before .before .before .before .before .before .before) .long)
+slice-aggregate-begin c = sym (rooted (c .before) .file .long)
 
 begin-requires : tie.Need-begin-requires
 begin-requires c κs = begins _ _ _ _ _ _ _ _ (rooted (c .before))
 
 slice-aggregate-search-from : tie.Need-slice-aggregate-search-from
-slice-aggregate-search-from c =
-    sym (loaded (c .before .before .before .before .before .before .before .before .before) .long)
+slice-aggregate-search-from c = sym (rooted (c .before .before .before) .file .long)
 
 search-from-requires : tie.Need-search-from-requires
 search-from-requires c κs =
