@@ -21,8 +21,9 @@ use Rattle.node.specs.Stored.{Small, InRows, rowColumns}
 use Rattle.node.specs.View.{view}
 use Rattle.candidates.specs.Row.{zeroIn}
 use Rattle.node.proofs.Parts.{body-in-rows, free-row}
-use Rattle.columns.specs.Column.{branchColumn, columnPrecedes, noColumn, columnFrom, columnOf, bestColumn, only, sharingIn, InColumns, Few}
-use Rattle.columns.proofs.Sharing.{keep-both, sharing-is}
+use Rattle.sharing.specs.Sharing.{sharingIn}
+use Rattle.sharing.proofs.Sharing.{keep-both, sharing-is}
+use Rattle.columns.specs.Column.{branchColumn, columnPrecedes, noColumn, columnFrom, columnOf, bestColumn, only, InColumns, Few}
 
 -- its body
 module _ (p : Matrix) (q : Small p) (j : ℕ) (l : j < width p) (rs : List ℕ) (is : rs ≡ body p j) where

@@ -1,7 +1,5 @@
 mod Only
-mod Seen
 mod Products
-mod Sharing
 mod Column
 mod Columns
 pub mod Picked

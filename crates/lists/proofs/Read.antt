@@ -10,6 +10,7 @@ use Rattle.refusals.specs.declared.Refusal.{Refusal}
 use Rattle.refusals.proofs.Laws.{passes, accepts, refuses, fills, front-take}
 use Rattle.node.specs.Lists.{table, total}
 use Rattle.node.specs.Matrix.{width}
+use Rattle.node.proofs.Loops.{zeros-after}
 use Rattle.rules.proofs.Costs.{costLimit}
 use Rattle.dutyfile.specs.declared.Shape.{Shape}
 use Rattle.dutyfile.specs.File.{columnsIn, entries, costOf, sizeOf, parse, instance, sum, shape}
@@ -20,7 +21,6 @@ use Rattle.examine.specs.declared.ReadAnswer.{ReadAnswer}
 use Rattle.examine.specs.declared.ReadAnswer.the-variants.{Accepted as accept, Refused as refuse}
 use Rattle.examine.specs.Answer.{readOutcome}
 use Rattle.matrix.specs.Stated.{stated, Statable}
-use Rattle.matrix.proofs.Root.{zeros-after}
 use Rattle.matrix.proofs.Accepted.{file-is, file-wide, file-statable, file-cheap}
 use Rattle.lists.specs.Places.{Places}
 

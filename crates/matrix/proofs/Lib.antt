@@ -9,7 +9,5 @@ mod Collected
 mod Parts
 mod Laid
 mod Listing
--- of the root,
-pub mod Root
 -- and the matrix of an accepted file.
 pub mod Accepted

@@ -1,9 +1,9 @@
--- What the steps of building a matrix and its root come to.
+-- What the steps of building a matrix come to.
 use mathlib.Core.Path.{_≡_}
 use mathlib.Core.Bool.{Bool}
-use mathlib.Core.List.{List, [], _∷_, _++_, map}
+use mathlib.Core.List.{List, [], _∷_, map}
 use Prim.Native.Nat.{ℕ, suc, _+_, _*_, _-_, _≤_, _<_}
-use lib.ListN.{length, getD, set, drop, replicate}
+use lib.ListN.{length, getD, set}
 use lib.Seq.{sets}
 use lib.Dec.{eqb}
 use Rattle.node.specs.Lists.{keep, upto}
@@ -55,7 +55,3 @@ pub record RowRoom (cover : List ℕ) (columns rows at : ℕ) : Type 0 where
   pub few : columns ≤ 256
   pub low : rows ≤ 64
   pub full : at + size (allMarks cover columns rows) ≤ 8516
-
--- a list with its first n places 1
-abbrev pub ones : ℕ → List ℕ → List ℕ
-ones n l = replicate n 1 ++ drop n l

@@ -1,14 +1,12 @@
-// The list that keeps a matrix, and the root node: built once from the lists of a file.
-use node::Node;
+// The list that keeps a matrix, built once from the lists of a file.
 ghost use mathlib.Core.Path.{_≡_};
 ghost use Prim.Native.Nat.{_+_, _≤_, _<_};
 ghost use lib.ListN.{length, replicate};
 ghost use lib.Seq.{sets};
-ghost use Rattle.node.specs.Node.{root};
-ghost use Rattle.node.specs.Stored.{matrixIn, Body, Kept};
+ghost use Rattle.node.specs.Stored.{Body};
 ghost use Rattle.dutyfile.specs.File.{bodies};
 ghost use Rattle.matrix.specs.Stated.{stated, Statable, Holds};
-ghost use Rattle.matrix.specs.Build.{put, marked, allMarked, marksOf, allMarks, Room, RowRoom, ones};
+ghost use Rattle.matrix.specs.Build.{put, marked, allMarked, marksOf, allMarks, Room, RowRoom};
 
 // Places for a matrix.
 pub fn no_cells() -> [u16; 8516]
@@ -125,33 +123,4 @@ pub fn matrix_list(rows: usize, lengths: &[u16], numbers: &[u8]) -> [u16; 8516]
     put_bodies(&mut matrix, &mut cover, lengths, numbers);
     put_rows(&mut matrix, end, &cover, columns, rows);
     matrix
-}
-
-// Sets the first n marks of a list to 1.
-fn set_marks(marks: &mut [u8], n: usize)
-    requires { ⌜ n ≤ length (now marks) ⌝ }
-    ensures { λ _. ⌜ now (marks .exit) ≡ ones n (now (marks .entry)) ⌝ }
-{
-    let mut i = 0;
-    while i < n {
-        marks[i] = 1;
-        i += 1;
-    }
-}
-
-// The root: all rows open, all columns free at the given costs, and bound 0.
-pub fn root_node(matrix: &[u16], costs: [u32; 256]) -> Node
-    requires { ⌜ Kept (now matrix) ⌝ }
-    ensures { λ r. ⌜ r ≡ root (matrixIn (now (matrix .entry))) costs ⌝ }
-{
-    let mut column = [0u8; 256];
-    set_marks(&mut column, node::column_count(matrix));
-    let mut row = [0u8; 64];
-    set_marks(&mut row, node::row_count(matrix));
-    Node {
-        cost: costs,
-        column: column,
-        row: row,
-        bound: 0,
-    }
 }

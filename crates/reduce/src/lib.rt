@@ -87,7 +87,7 @@ pub fn reduce(file: &[u8], reduced: &mut [u32], order: &mut [u8]) -> ReduceAnswe
             match room {
                 Check::Failed(why) => ReduceAnswer::Refused(why),
                 Check::Passed => {
-                    let root = matrix::root_node(&matrix, costs);
+                    let root = root::root_node(&matrix, costs);
                     let done = reduce_node(root, &matrix);
                     ReduceAnswer::Reduced(give(done, shape.columns, reduced, order))
                 }

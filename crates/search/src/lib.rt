@@ -75,7 +75,7 @@ fn search_for(
             match test {
                 Check::Failed(why) => SearchAnswer::Refused(why),
                 Check::Passed => {
-                    let root = matrix::root_node(&matrix, costs);
+                    let root = root::root_node(&matrix, costs);
                     let start = requests::begin(goal, root, agreed, absent, &matrix);
                     let done = solver::search_from(goal, start, &matrix, limit);
                     answer::give(done, shape.columns, plan)

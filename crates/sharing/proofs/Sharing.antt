@@ -23,7 +23,7 @@ use Rattle.node.proofs.Loops.{take-step}
 use Rattle.node.specs.View.{view}
 use Rattle.candidates.specs.Row.{zeroIn}
 use Rattle.candidates.proofs.Keep.{keep-none}
-use Rattle.columns.specs.Column.{common, sharingIn, isSeen, Counted}
+use Rattle.sharing.specs.Sharing.{common, sharingIn, isSeen, Counted}
 
 -- two tests in turn
 pub keep-both : (t u : ℕ → Bool) (xs : List ℕ) → keep t (keep u xs) ≡ keep (λ k. u k && t k) xs

@@ -1,7 +1,7 @@
 -- A table of zeros has a 0 at each place.
 use lib.ListN.{getD-replicate}
-use Rattle.columns.proofs.none_seen.Statement.{statement}
-use Rattle.columns.proofs.none_seen.Tie as tie
+use Rattle.sharing.proofs.none_seen.Statement.{statement}
+use Rattle.sharing.proofs.none_seen.Tie as tie
 
 returns : tie.Need-returns
 returns c = λ k h. getD-replicate 256 k 0 0 h

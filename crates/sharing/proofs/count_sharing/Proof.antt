@@ -6,9 +6,9 @@ use native.Mathlib.Omega.{arith}
 use borrow.Author.Needs.{needs}
 use Rattle.node.specs.Stored.{matrixIn}
 use Rattle.node.proofs.Parts.{body-row, row-few}
-use Rattle.columns.proofs.Sharing.{Sharing, sharing-start, sharing-few, sharing-next, sharing-end}
-use Rattle.columns.proofs.count_sharing.Statement.{statement}
-use Rattle.columns.proofs.count_sharing.Tie as tie
+use Rattle.sharing.proofs.Sharing.{Sharing, sharing-start, sharing-few, sharing-next, sharing-end}
+use Rattle.sharing.proofs.count_sharing.Statement.{statement}
+use Rattle.sharing.proofs.count_sharing.Tie as tie
 
 abbrev Inv-loop : tie.InvT-loop
 Inv-loop cost column matrix body seen₀ count₀ k₀ seen count k = Sharing matrix cost column body seen count k

@@ -1,40 +1,20 @@
--- The root's tables: a list at the front of zeros is a table, and ones there are the marks of the first rows or columns.
-use mathlib.Core.Path.{_≡_, refl, ap, sym, _∙_}
+-- The root's tables: ones at the front of zeros are the marks of the first rows or columns.
+use mathlib.Core.Path.{_≡_, refl, ap, _∙_}
 use mathlib.Core.Bool.{Bool, true, false}
-use mathlib.Core.List.{List, _++_}
-use Prim.Native.Nat.{ℕ, _+_, _-_, _≤_, _<_}
+use mathlib.Core.List.{List}
+use Prim.Native.Nat.{ℕ, _+_, _≤_, _<_}
 use native.Mathlib.Omega.{arith}
-use lib.ListN.{length, getD, drop, replicate, length-replicate, getD-replicate, length-append, length-drop, List·getD-append, List·getD-eq-default, set, length-set}
+use lib.ListN.{length, getD, replicate, length-replicate, getD-replicate, List·getD-eq-default, set, length-set}
 use borrow.Author.Fill.{fill-none, fill-more}
-use lib.Seq.{getD-append-add, getD-drop}
 use lib.Dec.{ltb}
 use borrow.Author.Tests.{ltb-true, ltb-false}
 use Rattle.node.specs.Lists.{on, table}
-use Rattle.node.proofs.Loops.{table-ext}
+use Rattle.node.proofs.Loops.{table-ext, zeros-after}
 use Rattle.node.specs.declared.Node.{Node}
 use Rattle.node.specs.Matrix.{Matrix, width}
 use Rattle.node.specs.Stored.{FitsNode}
 use Rattle.node.specs.Node.{root}
-use Rattle.matrix.specs.Build.{ones}
-
--- a list at the front of zeros
-pub zeros-after : (new : List ℕ) (m : ℕ) → length new ≤ m → new ++ drop (length new) (replicate m 0) ≡ table m (λ j. getD new j 0)
-zeros-after new m h = table-ext m (λ j. getD new j 0) (new ++ drop (length new) (replicate m 0)) size (λ k l. go k l (ltb k (length new)) refl)
-  where
-    size : length (new ++ drop (length new) (replicate m 0)) ≡ m
-    size = simp (length-append, length-drop, length-replicate) (omega arith)
-
-    go : (k : ℕ) → k < m → (b : Bool) → ltb k (length new) ≡ b → getD (new ++ drop (length new) (replicate m 0)) k 0 ≡ getD new k 0
-    go k l true e = List·getD-append new (drop (length new) (replicate m 0)) 0 k (ltb-true k (length new) e)
-    go k l false e =
-        let i : length new ≤ k = ltb-false k (length new) e in
-        let q : k ≡ length new + (k - length new) = omega arith in
-        let s : length new + (k - length new) ≡ k = omega arith in
-        ap (λ (z : ℕ). getD (new ++ drop (length new) (replicate m 0)) z 0) q
-        ∙ getD-append-add new (drop (length new) (replicate m 0)) (k - length new) 0
-        ∙ getD-drop (length new) (replicate m 0) (k - length new) 0
-        ∙ rw s (getD-replicate m k 0 0 l)
-        ∙ sym (List·getD-eq-default new 0 i)
+use Rattle.root.specs.Ones.{ones}
 
 ones-at : (n k : ℕ) → getD (replicate n 1) k 0 ≡ on (ltb k n) 1
 ones-at n k = go (ltb k n) refl

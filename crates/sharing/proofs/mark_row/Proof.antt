@@ -5,9 +5,9 @@ use lib.ListN.{length}
 use native.Mathlib.Omega.{arith}
 use borrow.Author.Needs.{needs}
 use Rattle.candidates.specs.Row.{zeroIn}
-use Rattle.columns.proofs.Seen.{Marking, marking-start, marking-new, marking-old, marking-other, marking-end}
-use Rattle.columns.proofs.mark_row.Statement.{statement}
-use Rattle.columns.proofs.mark_row.Tie as tie
+use Rattle.sharing.proofs.Seen.{Marking, marking-start, marking-new, marking-old, marking-other, marking-end}
+use Rattle.sharing.proofs.mark_row.Statement.{statement}
+use Rattle.sharing.proofs.mark_row.Tie as tie
 
 abbrev Inv-loop : tie.InvT-loop
 Inv-loop cost column row seen₀ count₀ k₀ seen count k = Marking (zeroIn cost column) row seen₀ seen count k

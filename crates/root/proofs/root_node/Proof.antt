@@ -1,8 +1,8 @@
 -- The tables are those of the root: ones at the front of zeros.
-use Rattle.matrix.proofs.Root.{root-is}
+use Rattle.root.proofs.Root.{root-is}
 use borrow.Author.Needs.{needs}
-use Rattle.matrix.proofs.root_node.Statement.{statement}
-use Rattle.matrix.proofs.root_node.Tie as tie
+use Rattle.root.proofs.root_node.Statement.{statement}
+use Rattle.root.proofs.root_node.Tie as tie
 
 slice-aggregate-set-marks : tie.Need-slice-aggregate-set-marks
 slice-aggregate-set-marks c = search needs

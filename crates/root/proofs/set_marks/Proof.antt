@@ -1,9 +1,9 @@
 -- The marks so far are ones, and the others are as they were.
 use Prim.Native.Nat.{_-_}
 use native.Mathlib.Omega.{arith}
-use Rattle.matrix.proofs.Root.{Marked, marked-start, marked-next, marked-end}
-use Rattle.matrix.proofs.set_marks.Statement.{statement}
-use Rattle.matrix.proofs.set_marks.Tie as tie
+use Rattle.root.proofs.Root.{Marked, marked-start, marked-next, marked-end}
+use Rattle.root.proofs.set_marks.Statement.{statement}
+use Rattle.root.proofs.set_marks.Tie as tie
 
 abbrev Inv-loop : tie.InvT-loop
 Inv-loop marks₀ n i₀ marks i = Marked marks₀ n marks i

@@ -13,7 +13,7 @@ use borrow.Author.Tests.{eqb-true, eqb-false, le-ltb, lt-ltb}
 use Rattle.node.specs.Lists.{keep, member, upto, on}
 use Rattle.node.proofs.Loops.{take-step}
 use Rattle.rules.proofs.Sums.{total-add, total-at, length-keep}
-use Rattle.columns.specs.Column.{isSeen, Counted}
+use Rattle.sharing.specs.Sharing.{isSeen, Counted}
 
 -- membership with one more element
 pub member-more : (a x : ℕ) (xs : List ℕ) → member a (xs ++ (x ∷ [])) ≡ (member a xs || eqb a x)

@@ -1,0 +1,2 @@
+mod Seen
+pub mod Sharing
