@@ -9,7 +9,7 @@ use lib.Seq.{take-append-seam}
 use Rattle.refusals.specs.Refusals.{front}
 use Rattle.rules.specs.Search.{nothing, plan, best, none, stopped, finished, shownBy}
 use Rattle.rules.specs.Limited.{answerIf, answerFrom}
-use Rattle.visit.specs.Tally.{takenIn, keptBy}
+use Rattle.tally.specs.Tally.{takenIn, keptBy}
 use Rattle.solver.specs.declared.Solved.{Solved}
 use Rattle.solver.specs.Solved.{solvedAnswer}
 use Rattle.answer.specs.Answer.{listed}

@@ -13,7 +13,7 @@ use Rattle.refusals.specs.Refusals.{front}
 use Rattle.refusals.proofs.Laws.{front-sets}
 use Rattle.node.specs.Lists.{keep, from}
 use Rattle.node.proofs.Loops.{from-next}
-use Rattle.visit.specs.Tally.{takenIn}
+use Rattle.tally.specs.Tally.{takenIn}
 use Rattle.answer.specs.Plan.{PlanRoom}
 
 -- the taken columns from j on

@@ -4,7 +4,7 @@ use mathlib.Core.Bool.{true}
 use mathlib.Core.List.{List}
 use Prim.Native.Nat.{ℕ, _≤_}
 use lib.ListN.{length}
-use Rattle.visit.specs.Tally.{takenIn}
+use Rattle.tally.specs.Tally.{takenIn}
 use Rattle.solver.specs.declared.Solved.{Solved}
 
 -- a list of so many places has room for the taken ones of the first w columns

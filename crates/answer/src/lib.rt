@@ -7,7 +7,7 @@ ghost use Prim.Native.Nat.{suc};
 ghost use lib.ListN.{length};
 ghost use Rattle.refusals.specs.Refusals.{accepted, front};
 ghost use Rattle.rules.specs.Search.{shownBy};
-ghost use Rattle.visit.specs.Tally.{takenIn};
+ghost use Rattle.tally.specs.Tally.{takenIn};
 ghost use Rattle.solver.specs.Solved.{solvedAnswer};
 ghost use Rattle.answer.specs.Answer.{searchOutcome, valuesOf, planNumbers, seen};
 ghost use Rattle.answer.specs.Plan.{PlanFits, PlanRoom};

@@ -31,7 +31,7 @@ use Rattle.dutyfile.specs.Faults.{fileFault}
 use Rattle.dutyfile.proofs.Facts.{ask-within}
 use Rattle.requests.specs.Numbers.{Begins}
 use Rattle.lists.specs.Loaded.{Loaded}
-use Rattle.visit.specs.Tally.{takenIn}
+use Rattle.tally.specs.Tally.{takenIn}
 use Rattle.solver.specs.declared.Solved.{Solved}
 use Rattle.solver.specs.Solved.{Searchable, solvedAnswer}
 use Rattle.answer.specs.declared.SearchAnswer.{SearchAnswer}

@@ -14,9 +14,9 @@ use Rattle.rules.specs.Limited as rules
 use Rattle.rules.specs.Tree.{Variant, live, visit, fullTree, rootBound, answer}
 use Rattle.rules.proofs.Rows.{size, size-fits}
 use Rattle.rules.proofs.Demand.{limited-answer, dead-answer, dead-settled}
-use Rattle.visit.specs.declared.Tally.{Tally}
+use Rattle.tally.specs.declared.Tally.{Tally}
 use Rattle.visit.specs.declared.Settled.{Settled}
-use Rattle.visit.specs.Tally.{shown}
+use Rattle.tally.specs.Tally.{shown}
 use Rattle.visit.specs.Settled.{settledBy, settled}
 use Rattle.solver.specs.declared.Solved.{Solved}
 use Rattle.solver.specs.Solved.{solvedAnswer}

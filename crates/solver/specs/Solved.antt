@@ -6,7 +6,7 @@ use Rattle.rules.specs.declared.Goal.{Goal}
 use Rattle.rules.specs.Search.{Answer}
 use Rattle.rules.specs.Limited.{answerFrom}
 use Rattle.rules.proofs.Goals.{WorkableFor}
-use Rattle.visit.specs.Tally.{shown}
+use Rattle.tally.specs.Tally.{shown}
 use Rattle.solver.specs.declared.Solved.{Solved}
 
 -- a workable first node, and a node limit in range

@@ -3,9 +3,9 @@
 use node::Node;
 use rules::Forced;
 use rules::Goal;
-use visit::Tally;
-use visit::enter;
-use visit::fresh_tally;
+use tally::Tally;
+use tally::enter;
+use tally::fresh_tally;
 use visit::settle;
 ghost use mathlib.Core.Path.{_≡_};
 ghost use Rattle.node.specs.Matrix.{Matrix, width};

@@ -23,11 +23,11 @@ use Rattle.rules.proofs.Steps.{take-less, leave-less}
 use Rattle.rules.proofs.Variants.{Stepping}
 use Rattle.rules.proofs.Goals.{WorkableFor, goal-steps}
 use Rattle.goals.specs.Taking.{Takes}
-use Rattle.visit.specs.declared.Tally.{Tally}
+use Rattle.tally.specs.declared.Tally.{Tally}
 use Rattle.visit.specs.declared.Settled.{Settled}
-use Rattle.visit.specs.Tally.{takenIn, keptIn, shown}
+use Rattle.tally.specs.Tally.{takenIn, keptIn, shown}
 use Rattle.visit.specs.Settled.{settled}
-use Rattle.visit.proofs.Offers.{reached}
+use Rattle.tally.proofs.Offers.{reached}
 use Rattle.visit.proofs.Settling.{settled-workable}
 use Rattle.tree.specs.declared.Choice.{Choice}
 use Rattle.tree.specs.Walks.{Walks, Branching, branches, choiceOf}

@@ -16,7 +16,7 @@ use Rattle.rules.proofs.Plans.{Free}
 use Rattle.rules.proofs.Forcing.{TwoFree}
 use Rattle.rules.proofs.Variants.{ZeroIn}
 use Rattle.rules.proofs.Goals.{WorkableFor}
-use Rattle.visit.specs.declared.Tally.{Tally}
+use Rattle.tally.specs.declared.Tally.{Tally}
 use Rattle.tree.specs.declared.Choice.{Choice}
 
 -- a workable node, and no more nodes than the largest node limit

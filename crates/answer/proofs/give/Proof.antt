@@ -4,7 +4,7 @@ use borrow.Author.Tests.{not-true, not-false}
 use borrow.Author.Needs.{needs}
 use Rattle.refusals.specs.Refusals.{front}
 use Rattle.rules.specs.Search.{shownBy}
-use Rattle.visit.specs.Tally.{takenIn}
+use Rattle.tally.specs.Tally.{takenIn}
 use Rattle.answer.specs.Answer.{searchOutcome, shownOf, valuesOf, planNumbers, seen}
 use Rattle.answer.proofs.Given.{listed-front, answer-stopped, answer-none, answer-stopped-with, answer-best}
 use Rattle.answer.proofs.give.Statement.{statement}

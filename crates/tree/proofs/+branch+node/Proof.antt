@@ -26,10 +26,10 @@ use Rattle.tree.proofs.choose_for.Reads as choose-reads
 use Rattle.node.proofs.Node.leave.Reads as leave-reads
 use Rattle.goals.proofs.join.Reads as join-reads
 use Rattle.node.proofs.Node.take.Reads as take-reads
-use Rattle.visit.proofs.enter.Reads as enter-reads
-use Rattle.visit.proofs.halt.Reads as halt-reads
-use Rattle.visit.proofs.is_reached.Reads as is-reached-reads
-use Rattle.visit.proofs.offer.Reads as offer-reads
+use Rattle.tally.proofs.enter.Reads as enter-reads
+use Rattle.tally.proofs.halt.Reads as halt-reads
+use Rattle.tally.proofs.is_reached.Reads as is-reached-reads
+use Rattle.tally.proofs.offer.Reads as offer-reads
 use Rattle.tree.proofs.settle_node.Reads as settle-reads
 use Rattle.tree.proofs.+branch+node.{statement}
 use Rattle.tree.proofs.+branch+node.Tie.{close}

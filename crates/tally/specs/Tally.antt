@@ -7,7 +7,7 @@ use lib.Dec.{eqb}
 use Rattle.node.specs.Lists.{keep, upto}
 use Rattle.rules.specs.Search.{Incumbent, nothing, plan}
 use Rattle.rules.specs.Limited as rules
-use Rattle.visit.specs.declared.Tally.{Tally}
+use Rattle.tally.specs.declared.Tally.{Tally}
 
 -- the taken ones of the first w columns, by their marks, rising
 abbrev pub takenIn : ℕ → List ℕ → List ℕ

@@ -6,7 +6,7 @@ use Prim.Native.Nat.{ℕ}
 use lib.Dec.{leb}
 use borrow.Author.Tests.{leb-true, leb-false, le-ltb, lt-ltb}
 use Rattle.rules.specs.Search.{improve, reaches}
-use Rattle.visit.specs.Tally.{keptBy}
+use Rattle.tally.specs.Tally.{keptBy}
 
 module _ (c b : ℕ) (js ks : List ℕ) where
   -- an incumbent of cost c, and a plan of cost b

@@ -1,7 +1,7 @@
 -- The walk is stopped, and the rest is as before.
 use mathlib.Core.Path.{refl}
-use Rattle.visit.proofs.halt.Statement.{statement}
-use Rattle.visit.proofs.halt.Tie as tie
+use Rattle.tally.proofs.halt.Statement.{statement}
+use Rattle.tally.proofs.halt.Tie as tie
 
 returns : tie.Need-returns
 returns c = λ w. refl

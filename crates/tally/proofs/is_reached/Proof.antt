@@ -1,7 +1,7 @@
 -- With an incumbent the costs decide.
 use borrow.Author.Needs.{needs}
-use Rattle.visit.proofs.is_reached.Statement.{statement}
-use Rattle.visit.proofs.is_reached.Tie as tie
+use Rattle.tally.proofs.is_reached.Statement.{statement}
+use Rattle.tally.proofs.is_reached.Tie as tie
 
 returns : tie.Need-returns
 returns c = rw (c .if1 .taken)

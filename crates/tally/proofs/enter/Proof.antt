@@ -1,8 +1,8 @@
 -- One node more is entered, one less is left, and the rest is as before.
 use mathlib.Core.Path.{refl}
 use borrow.Author.Needs.{needs}
-use Rattle.visit.proofs.enter.Statement.{statement}
-use Rattle.visit.proofs.enter.Tie as tie
+use Rattle.tally.proofs.enter.Statement.{statement}
+use Rattle.tally.proofs.enter.Tie as tie
 
 add-u : tie.Need-add-u
 add-u c = search needs

@@ -2,10 +2,10 @@
 use mathlib.Core.Path.{ap, sym, _∙_}
 use Rattle.rules.specs.Search.{Incumbent}
 use Rattle.rules.specs.Limited.{Tally}
-use Rattle.visit.proofs.Offers.{stays, yields}
+use Rattle.tally.proofs.Offers.{stays, yields}
 use borrow.Author.Needs.{needs}
-use Rattle.visit.proofs.offer.Statement.{statement}
-use Rattle.visit.proofs.offer.Tie as tie
+use Rattle.tally.proofs.offer.Statement.{statement}
+use Rattle.tally.proofs.offer.Tie as tie
 
 is-reached-requires : tie.Need-is-reached-requires
 is-reached-requires c κs = search needs

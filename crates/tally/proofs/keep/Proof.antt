@@ -1,7 +1,7 @@
 -- The fields that are set, and those of the tally before.
 use mathlib.Core.Path.{refl}
-use Rattle.visit.proofs.keep.Statement.{statement}
-use Rattle.visit.proofs.keep.Tie as tie
+use Rattle.tally.proofs.keep.Statement.{statement}
+use Rattle.tally.proofs.keep.Tie as tie
 
 returns : tie.Need-returns
 returns c = refl

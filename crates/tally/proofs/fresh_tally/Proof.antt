@@ -1,8 +1,8 @@
 -- There is no incumbent.
 use mathlib.Core.Path.{refl}
-use Rattle.visit.specs.Tally.{keptBy}
-use Rattle.visit.proofs.fresh_tally.Statement.{statement}
-use Rattle.visit.proofs.fresh_tally.Tie as tie
+use Rattle.tally.specs.Tally.{keptBy}
+use Rattle.tally.proofs.fresh_tally.Statement.{statement}
+use Rattle.tally.proofs.fresh_tally.Tie as tie
 
 returns : tie.Need-returns
 unfolding keptBy
