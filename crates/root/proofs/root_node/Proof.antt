@@ -24,8 +24,8 @@ set-marks-requires-2 c κs = search needs
 
 returns : tie.Need-returns
 returns c =
-    let s = c .before .before .before .before .before .before .before .before .before in
     let k = c .before .before .before .before .before in
+    let s = k .before .before .before .before in
     root-is _ _ _ _ (s .pre .small .fits) (search needs) (rw (k .before .column-count .ensures) at (k .set-marks .ensures))
     (rw (c .before .before .row-count .ensures) at (c .before .set-marks2 .ensures))
 
