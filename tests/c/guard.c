@@ -293,7 +293,7 @@ static void accepted(void) {
           READ, "the lists of example 1");
     holds(checked.refusal == 0 && checked.is_plan == 1 && checked.price == 17, CHECK, "example 1");
     holds(reduction.refusal == 0 && reduction.bound == 17 && reduction.used == 4, REDUCE, "example 1");
-    holds(order[0] == 4 && order[1] == 1 && order[2] == 2 && order[3] == 5, REDUCE, "the order of example 1");
+    holds(order[0] == 1 && order[1] == 4 && order[2] == 2 && order[3] == 5, REDUCE, "the order of example 1");
     accepted_search(SEARCH, plan, 17, 17);
     accepted_search(LONGEST, longest_plan, 7, 6);
     accepted_lists(SEARCH_WITH, 18);

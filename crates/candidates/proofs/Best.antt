@@ -13,7 +13,7 @@ use Rattle.node.specs.Lists.{keep, from}
 use Rattle.node.specs.Passes.{carry, follow}
 use Rattle.node.specs.Matrix.{Matrix}
 use Rattle.node.specs.Node.{freeColumns, freeOf, openRows}
-use Rattle.rules.specs.Reduce.{leastOf, candidates, candidate, rowFirst}
+use Rattle.rules.specs.Reduce.{leastOf, candidates, candidate, precedes, rowFirst}
 use Rattle.node.proofs.Members.{keep-cong}
 use Rattle.node.proofs.Passes.{Passing, passing-start, passing-open, passing-closed, passing-end, follow-none}
 use Rattle.node.specs.Stored.{matrixIn, Kept, rowColumns}
@@ -39,7 +39,7 @@ module _ (p : Matrix) (s : Node) where
   best-is : follow (candidate p s) ahead none (openRows p s) ≡ bestOf p s
   unfolding candidates usable ahead rowFirst
   best-is =
-      follow-none (candidate p s) ahead (rowFirst p s) usable (λ i k g h. rw (has-cost i g, has-cost k h)) (λ b i h. rw (no-cost i h)) none
+      follow-none (candidate p s) ahead (rowFirst precedes p s) usable (λ i k g h. rw (has-cost i g, has-cost k h)) (λ b i h. rw (no-cost i h)) none
       (openRows p s) (λ i m h. rw (has-cost i h))
 
 -- what a row changes

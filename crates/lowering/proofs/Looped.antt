@@ -13,7 +13,7 @@ use Rattle.node.specs.Lists.{pick}
 use Rattle.node.specs.Passes.{bestIn}
 use Rattle.node.specs.Matrix.{Matrix}
 use Rattle.node.specs.Node.{costAt, freeColumns, freeOf, openRows}
-use Rattle.rules.specs.Reduce.{leastOf, candidates, candidate, rowFirst, Reduced, reduceBy}
+use Rattle.rules.specs.Reduce.{leastOf, candidates, candidate, precedes, rowFirst, Reduced, reduceBy}
 use Rattle.rules.specs.Reduce as rules
 use Rattle.node.proofs.Members.{least-le}
 use Rattle.rules.proofs.Plans.{FreeIn}
@@ -39,7 +39,7 @@ all-left p s = refl
 -- it has the best candidate too
 best-left : (p : Matrix) (s : Node) (left : List ℕ) → Leaves p s left → bestOf p (view (s .cost) (s .column) left) ≡ bestOf p s
 unfolding candidate rowFirst leastOf freeOf freeColumns
-best-left p s left e = ap (bestIn (candidate p s) (rowFirst p s) none) e
+best-left p s left e = ap (bestIn (candidate p s) (rowFirst precedes p s) none) e
 
 -- and the candidates of the node lowered
 lower-left : (p : Matrix) → FitsNode p → (s : Node) (i a : ℕ) (left : List ℕ) → Leaves p s left → Leaves p (rules.lower p s i a) left
@@ -53,10 +53,10 @@ module _ (p : Matrix) (F : FitsNode p) (s : Node) where
     first : ℕ
     rest : List ℕ
     listed : candidates p s ≡ first ∷ rest
-    row-is : best .row ≡ pick (rowFirst p s) first rest
-    cost-is : best .cost ≡ leastOf p s (pick (rowFirst p s) first rest)
+    row-is : best .row ≡ pick (rowFirst precedes p s) first rest
+    cost-is : best .cost ≡ leastOf p s (pick (rowFirst precedes p s) first rest)
 
-  best-cons : (i : ℕ) (is : List ℕ) → candidates p s ≡ i ∷ is → bestOf p s ≡ candidate p s (pick (rowFirst p s) i is)
+  best-cons : (i : ℕ) (is : List ℕ) → candidates p s ≡ i ∷ is → bestOf p s ≡ candidate p s (pick (rowFirst precedes p s) i is)
   unfolding bestIn
   best-cons i is e = rw e
 
@@ -87,9 +87,9 @@ module _ (p : Matrix) (F : FitsNode p) (s : Node) where
       go : (xs : List ℕ) → candidates p s ≡ xs → candidates p s ≡ []
       go [] q = q
       go (i ∷ is) q =
-          let b : ℕ = pick (rowFirst p s) i is in
+          let b : ℕ = pick (rowFirst precedes p s) i is in
           let c : best .cost ≡ leastOf p s b = ap (λ (c : Candidate). c .cost) (e ∙ best-cons i is q) in
-          absurd (omega (arith, reduce-some p F (Fair p costLimit) (fair-lowers p F costLimit) s [] i is q .above))
+          absurd (omega (arith, reduce-some precedes p F (Fair p costLimit) (fair-lowers p F costLimit) s [] i is q .above))
 
 -- row i of a node lowered by a
 record Step (p : Matrix) (now : Node) (i a : ℕ) : Type 0 where
@@ -97,14 +97,14 @@ record Step (p : Matrix) (now : Node) (i a : ℕ) : Type 0 where
   covered : (j : ℕ) → FreeIn p now i j → a ≤ costAt now j
   falls : pending p (rules.lower p now i a) < pending p now
   fair : Fair p costLimit now → Fair p costLimit (rules.lower p now i a)
-  left : (us : List ℕ) → reduceBy (suc (p .rows)) p now us ≡ reduceBy (suc (p .rows)) p (rules.lower p now i a) (us ++ (i ∷ []))
+  left : (us : List ℕ) → reduceBy precedes (suc (p .rows)) p now us ≡ reduceBy precedes (suc (p .rows)) p (rules.lower p now i a) (us ++ (i ∷ []))
 
 step-picked : (p : Matrix) → FitsNode p → (now : Node) (i : ℕ) (is : List ℕ) → candidates p now ≡ i ∷ is →
-    let b : ℕ = pick (rowFirst p now) i is in Step p now b (leastOf p now b)
+    let b : ℕ = pick (rowFirst precedes p now) i is in Step p now b (leastOf p now b)
 unfolding leastOf
 step-picked p F now i is e =
-    let b : ℕ = pick (rowFirst p now) i is in
-    let some = reduce-some p F (Fair p costLimit) (fair-lowers p F costLimit) now in
+    let b : ℕ = pick (rowFirst precedes p now) i is in
+    let some = reduce-some precedes p F (Fair p costLimit) (fair-lowers p F costLimit) now in
     let t = some [] i is e in
     record {
       row = t .row-open .row;
@@ -117,7 +117,7 @@ step-picked p F now i is e =
 step-best : (p : Matrix) (F : FitsNode p) (now : Node) (best : Candidate) → Picked p F now best → Step p now (best .row) (best .cost)
 step-best p F now best q = go (best .row) (best .cost) (q .row-is) (q .cost-is)
   where
-    go : (i a : ℕ) → i ≡ pick (rowFirst p now) (q .first) (q .rest) → a ≡ leastOf p now (pick (rowFirst p now) (q .first) (q .rest)) → Step p now i a
+    go : (i a : ℕ) → i ≡ pick (rowFirst precedes p now) (q .first) (q .rest) → a ≡ leastOf p now (pick (rowFirst precedes p now) (q .first) (q .rest)) → Step p now i a
     go i a e f = rw (e, f) (step-picked p F now (q .first) (q .rest) (q .listed))
 
 bound-is : (p : Matrix) (now : Node) (i a : ℕ) → rules.lower p now i a .bound ≡ now .bound + a
@@ -140,13 +140,13 @@ pub record Reducing (l : List ℕ) (s now : Node) (left used : List ℕ) (count 
   pub used-is : take count used ≡ map suc rows
   pub count-is : count ≡ length rows
   pub room : count + pending (matrixIn l) now ≤ matrixIn l .rows
-  pub goes-on : reduceBy (suc (matrixIn l .rows)) (matrixIn l) now rows ≡ rules.reduce (matrixIn l) s
+  pub goes-on : reduceBy precedes (suc (matrixIn l .rows)) (matrixIn l) now rows ≡ rules.reduce (matrixIn l) s
   pub leaves : Leaves (matrixIn l) now left
   pub best-is : best ≡ bestOf (matrixIn l) now
 
 pub reducing-start : (l : List ℕ) (s : Node) (left used : List ℕ) (best : Candidate) → Workable l s → length used ≡ 64 →
     length (s .cost) ≡ 256 → Chooses (matrixIn l) (s .cost) (s .column) (s .row) left best → Reducing l s s left used 0 best
-unfolding rules.reduce
+unfolding rules.reduceWith
 reducing-start l s left used best k u c b = record {
   some = k;
   long = u;
@@ -220,7 +220,7 @@ module _ (l : List ℕ) (s now : Node) (left used : List ℕ) (count : ℕ) (bes
       let p : Matrix = matrixIn l in
       let F = w .some .kept .small .fits in
       let d : rules.reduce p s ≡ record { node = now; used = w .rows } =
-      sym (w .goes-on) ∙ reduce-none p F (Fair p costLimit) (fair-lowers p F costLimit) now (w .rows) (nothing-left p F now best (w .best-is) z) in
+      sym (w .goes-on) ∙ reduce-none precedes p F (Fair p costLimit) (fair-lowers p F costLimit) now (w .rows) (nothing-left p F now best (w .best-is) z) in
       record {
         node-is = sym (ap (λ (x : Reduced). x .node) d);
         used-is = w .used-is ∙ ap (λ (x : Reduced). map suc (x .used)) (sym d);

@@ -13,7 +13,7 @@ use Rattle.node.specs.declared.Node.{Node}
 use Rattle.node.specs.Lists.{pick, upto, on, total}
 use Rattle.node.specs.Matrix.{Matrix, width, IsPlan, price}
 use Rattle.node.specs.Node.{root, costAt}
-use Rattle.rules.specs.Reduce.{leastOf, candidates, rowFirst, reduceOn, reduceBy}
+use Rattle.rules.specs.Reduce.{leastOf, candidates, precedes, rowFirst, reduceOn, reduceBy}
 use Rattle.rules.specs.Reduce as rules
 use Rattle.node.proofs.Members.{length-from}
 use Rattle.rules.proofs.Sums.{total-cong}
@@ -33,20 +33,20 @@ module _ (p : Matrix) where
   unfolding rules.lower
   lower-long s i a = length-map (upto 256) _ ∙ length-from 256 0
 
-  long-by : (f : ℕ) (s : Node) (us : List ℕ) → length (s .cost) ≡ 256 → length (reduceBy f p s us .node .cost) ≡ 256
+  long-by : (f : ℕ) (s : Node) (us : List ℕ) → length (s .cost) ≡ 256 → length (reduceBy precedes f p s us .node .cost) ≡ 256
   unfolding reduceBy reduceOn
   long-by zero s us h = h
   long-by (suc f) s us h = go (candidates p s) (λ t vs l. long-by f t vs l)
     where
-      go : (xs : List ℕ) → ((t : Node) (vs : List ℕ) → length (t .cost) ≡ 256 → length (reduceBy f p t vs .node .cost) ≡ 256)
-          → length (reduceOn xs p s us (λ t vs. reduceBy f p t vs) .node .cost) ≡ 256
+      go : (xs : List ℕ) → ((t : Node) (vs : List ℕ) → length (t .cost) ≡ 256 → length (reduceBy precedes f p t vs .node .cost) ≡ 256)
+          → length (reduceOn precedes xs p s us (λ t vs. reduceBy precedes f p t vs) .node .cost) ≡ 256
       go [] q = h
       go (i ∷ is) q =
-          let b : ℕ = pick (rowFirst p s) i is in
+          let b : ℕ = pick (rowFirst precedes p s) i is in
           q (rules.lower p s b (leastOf p s b)) (us ++ (b ∷ [])) (lower-long s b (leastOf p s b))
 
   root-long : (cs : List ℕ) → length (rules.reduce p (root p cs) .node .cost) ≡ 256
-  unfolding rules.reduce root
+  unfolding rules.reduceWith root
   root-long cs = long-by (suc (p .rows)) (root p cs) [] (length-map (upto 256) _ ∙ length-from 256 0)
 
 -- the costs that the call puts into the list

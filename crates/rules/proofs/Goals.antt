@@ -11,7 +11,7 @@ use Rattle.node.specs.Stored.{matrixIn, Kept, FitsNode}
 use Rattle.rules.specs.declared.Goal.{Goal}
 use Rattle.rules.specs.declared.Goal.the-variants.{Sum, Longest}
 use Rattle.rules.specs.Force.{force}
-use Rattle.rules.specs.Reduce.{leastOf}
+use Rattle.rules.specs.Reduce.{leastOf, precedes}
 use Rattle.rules.specs.Longest.{topped, raised, longest}
 use Rattle.rules.specs.Goals.{searchFor}
 use Rattle.node.proofs.Members.{least-at}
@@ -83,7 +83,7 @@ pub goal-steps : (g : Goal) (l : List ℕ) → Kept l
     → Stepping (matrixIn l) (searchFor g (matrixIn l)) (IsPlan (matrixIn l)) (WorkableFor g l)
 unfolding searchFor FairFor
 goal-steps Sum l k =
-    sum-steps (matrixIn l) (k .small .fits) (WorkableFor Sum l) (λ s w. w .fair .sound)
+    sum-steps precedes (matrixIn l) (k .small .fits) (WorkableFor Sum l) (λ s w. w .fair .sound)
     (λ s j f w. record { kept = k; fair = take-fair (matrixIn l) (k .small .fits) s j f (w .fair) })
     (λ s j f w. record { kept = k; fair = leave-fair (matrixIn l) (k .small .fits) s j f (w .fair) })
     (λ s i a w o j f fits. record { kept = k; fair = lower-fair (matrixIn l) (k .small .fits) s i a (w .fair) j f fits })

@@ -1,5 +1,5 @@
 -- Reducing keeps a node good, changes no mark, and ends with a free column at cost 0 in each open row that has free columns. It comes to
--- its end, since a row used is a candidate no more, and no row becomes one.
+-- its end, since a row used is a candidate no more, and no row becomes one. This holds by any comparison of candidates.
 use mathlib.Core.Path.{_≡_, refl, sym, ap, _∙_}
 use mathlib.Core.Bool.{Bool, true, _&&_, false≢true, true≢false}
 use mathlib.Core.List.{List, [], _∷_, _++_}
@@ -13,7 +13,7 @@ use Rattle.node.specs.Lists.{member, least, pick, on, total}
 use Rattle.node.specs.Matrix.{Matrix, width, IsPlan, price}
 use Rattle.node.specs.Stored.{FitsNode}
 use Rattle.node.specs.Node.{isFree, isOpen, root, costAt, freeColumns, freeOf, openRows}
-use Rattle.rules.specs.Reduce.{leastOf, candidates, rowFirst, lower, Reduced, reduceOn, reduceBy, reduce}
+use Rattle.rules.specs.Reduce.{leastOf, candidates, lower, Comparison, precedes, rowFirst, Reduced, reduceOn, reduceBy, reduceWith, reduce}
 use Rattle.node.proofs.Members.{kept, member-keep, pick-member, least-le, least-at, least-mono, keep-lt, keep-short}
 use Rattle.node.proofs.Members.{keep-upto}
 use Rattle.rules.proofs.Sums.{total-cong}
@@ -88,7 +88,7 @@ module _ (p : Matrix) (F : FitsNode p) (s : Node) (b a : ℕ) where
       rw (lower-free i) (least-mono (costAt (lower p s b a)) (costAt s) (freeOf p s i)
       (λ k m. omega (arith, cost-lower p F s b a k (free-in p s i k m .free .col))))
 
-module _ (p : Matrix) (F : FitsNode p) (G : Node → Type 0) (lowers : Lowers p G) where
+module _ (before : Comparison) (p : Matrix) (F : FitsNode p) (G : Node → Type 0) (lowers : Lowers p G) where
   -- a candidate b, lowered by its least cost
   module _ (s : Node) (b : ℕ) (o : Open p s b) (a : 0 < leastOf p s b) where
     cheapest : (k : ℕ) × FreeIn p s b k × (leastOf p s b ≡ costAt s k)
@@ -128,11 +128,11 @@ module _ (p : Matrix) (F : FitsNode p) (G : Node → Type 0) (lowers : Lowers p 
   -- the row picked, i ∷ is the candidates
   module _ (s : Node) (i : ℕ) (is : List ℕ) (e : candidates p s ≡ i ∷ is) where
     picked : ℕ
-    picked = pick (rowFirst p s) i is
+    picked = pick (rowFirst before p s) i is
 
     picked-cand : Open p s picked × (0 < leastOf p s picked)
     unfolding picked
-    picked-cand = cand-in p s picked (rw e (pick-member (rowFirst p s) i is))
+    picked-cand = cand-in p s picked (rw e (pick-member (rowFirst before p s) i is))
 
     next : Node
     next = lower p s picked (leastOf p s picked)
@@ -147,7 +147,7 @@ module _ (p : Matrix) (F : FitsNode p) (G : Node → Type 0) (lowers : Lowers p 
 
   reduce-on : (s : Node) → G s → (xs : List ℕ) → candidates p s ≡ xs → (us : List ℕ) (w : Node → List ℕ → Reduced)
       → ((t : Node) (vs : List ℕ) → G t → pending p t < pending p s → Finished p G t (w t vs .node))
-      → Finished p G s (reduceOn xs p s us w .node)
+      → Finished p G s (reduceOn before xs p s us w .node)
   unfolding reduceOn member lower picked next
   reduce-on s g [] e us w q = record {
     good = g;
@@ -159,39 +159,39 @@ module _ (p : Matrix) (F : FitsNode p) (G : Node → Type 0) (lowers : Lowers p 
       let r = q (next s i is e) (us ++ (picked s i is e ∷ [])) (next-good s i is e g) (next-falls s i is e) in
       record { good = r .good; same-column = r .same-column; same-row = r .same-row; done = r .done }
 
-  reduce-by : (f : ℕ) (s : Node) (us : List ℕ) → G s → pending p s < f → Finished p G s (reduceBy f p s us .node)
+  reduce-by : (f : ℕ) (s : Node) (us : List ℕ) → G s → pending p s < f → Finished p G s (reduceBy before f p s us .node)
   unfolding reduceBy
   reduce-by zero s us g l = absurd (omega arith)
   reduce-by (suc f) s us g l =
-      reduce-on s g (candidates p s) refl us (λ t vs. reduceBy f p t vs) (λ t vs h m. reduce-by f t vs h (omega arith))
+      reduce-on s g (candidates p s) refl us (λ t vs. reduceBy before f p t vs) (λ t vs h m. reduce-by f t vs h (omega arith))
 
-  pub reduce-done : (s : Node) → G s → Finished p G s (reduce p s .node)
-  unfolding reduce
+  pub reduce-done : (s : Node) → G s → Finished p G s (reduceWith before p s .node)
+  unfolding reduceWith
   reduce-done s g = reduce-by (suc (p .rows)) s [] g (pending-fits p s)
 
   -- for a loop: the fuel does not matter, so reducing is one step and then reducing
   reduce-on-same : (s : Node) (us xs : List ℕ) → candidates p s ≡ xs → (w u : Node → List ℕ → Reduced)
-      → ((t : Node) (vs : List ℕ) → pending p t < pending p s → w t vs ≡ u t vs) → reduceOn xs p s us w ≡ reduceOn xs p s us u
+      → ((t : Node) (vs : List ℕ) → pending p t < pending p s → w t vs ≡ u t vs) → reduceOn before xs p s us w ≡ reduceOn before xs p s us u
   unfolding reduceOn picked next
   reduce-on-same s us [] e w u q = refl
   reduce-on-same s us (i ∷ is) e w u q = q (next s i is e) (us ++ (picked s i is e ∷ [])) (next-falls s i is e)
 
-  reduce-same : (f h : ℕ) (s : Node) (us : List ℕ) → pending p s < f → pending p s < h → reduceBy f p s us ≡ reduceBy h p s us
+  reduce-same : (f h : ℕ) (s : Node) (us : List ℕ) → pending p s < f → pending p s < h → reduceBy before f p s us ≡ reduceBy before h p s us
   unfolding reduceBy
   reduce-same zero h s us l m = absurd (omega arith)
   reduce-same (suc f) zero s us l m = absurd (omega arith)
   reduce-same (suc f) (suc h) s us l m =
-      reduce-on-same s us (candidates p s) refl (λ t vs. reduceBy f p t vs) (λ t vs. reduceBy h p t vs)
+      reduce-on-same s us (candidates p s) refl (λ t vs. reduceBy before f p t vs) (λ t vs. reduceBy before h p t vs)
       (λ t vs n. reduce-same f h t vs (omega arith) (omega arith))
 
   -- reducing from s, with the rows us used before
   abbrev pub reduceFrom : Node → List ℕ → Reduced
-  reduceFrom s us = reduceBy (suc (p .rows)) p s us
+  reduceFrom s us = reduceBy before (suc (p .rows)) p s us
 
-  pub reduce-step : (s : Node) (us : List ℕ) → reduceFrom s us ≡ reduceOn (candidates p s) p s us reduceFrom
+  pub reduce-step : (s : Node) (us : List ℕ) → reduceFrom s us ≡ reduceOn before (candidates p s) p s us reduceFrom
   unfolding reduceBy
   reduce-step s us =
-      reduce-on-same s us (candidates p s) refl (λ t vs. reduceBy (p .rows) p t vs) reduceFrom
+      reduce-on-same s us (candidates p s) refl (λ t vs. reduceBy before (p .rows) p t vs) reduceFrom
       (λ t vs n. reduce-same (p .rows) (suc (p .rows)) t vs (omega (arith, pending-fits p s)) (pending-fits p t))
 
   -- with no candidate left reducing is done, and one candidate used leads on
@@ -207,7 +207,7 @@ module _ (p : Matrix) (F : FitsNode p) (G : Node → Type 0) (lowers : Lowers p 
     pub left : reduceFrom s us ≡ reduceFrom t (us ++ (b ∷ []))
 
   pub reduce-some : (s : Node) (us : List ℕ) (i : ℕ) (is : List ℕ) → candidates p s ≡ i ∷ is
-      → let b : ℕ = pick (rowFirst p s) i is in Stepped s (lower p s b (leastOf p s b)) us b
+      → let b : ℕ = pick (rowFirst before p s) i is in Stepped s (lower p s b (leastOf p s b)) us b
   unfolding reduceOn picked next
   reduce-some s us i is e = record {
     row-open = picked-cand s i is e .0;
@@ -218,26 +218,26 @@ module _ (p : Matrix) (F : FitsNode p) (G : Node → Type 0) (lowers : Lowers p 
   }
 
   -- no more rows are used than there are
-  used-by : (f : ℕ) (s : Node) (us : List ℕ) → length (reduceBy f p s us .used) ≤ length us + pending p s
+  used-by : (f : ℕ) (s : Node) (us : List ℕ) → length (reduceBy before f p s us .used) ≤ length us + pending p s
   unfolding reduceBy reduceOn picked next
   used-by zero s us = omega arith
   used-by (suc f) s us = go (candidates p s) refl (λ t vs. used-by f t vs)
     where
       go : (xs : List ℕ) → candidates p s ≡ xs
-          → ((t : Node) (vs : List ℕ) → length (reduceBy f p t vs .used) ≤ length vs + pending p t)
-          → length (reduceOn xs p s us (λ t vs. reduceBy f p t vs) .used) ≤ length us + pending p s
+          → ((t : Node) (vs : List ℕ) → length (reduceBy before f p t vs .used) ≤ length vs + pending p t)
+          → length (reduceOn before xs p s us (λ t vs. reduceBy before f p t vs) .used) ≤ length us + pending p s
       go [] e q = omega arith
       go (i ∷ is) e q =
           let vs : List ℕ = picked s i is e ∷ [] in
           omega (arith, q (next s i is e) (us ++ vs), length-append us vs, next-falls s i is e)
 
-  reduce-used : (s : Node) → length (reduce p s .used) ≤ p .rows
-  unfolding reduce
+  reduce-used : (s : Node) → length (reduceWith before p s .used) ≤ p .rows
+  unfolding reduceWith
   reduce-used s = omega (arith, used-by (suc (p .rows)) s [], pending-fits p s)
 
 -- no more rows are used than there are, whatever lowering keeps
 pub used-few : (p : Matrix) → FitsNode p → (s : Node) → length (reduce p s .used) ≤ p .rows
-used-few p F s = reduce-used p F (λ t. Unit {0}) (λ t i a g o j f fits. tt) s
+used-few p F s = reduce-used precedes p F (λ t. Unit {0}) (λ t i a g o j f fits. tt) s
 
 pub fair-lowers : (p : Matrix) → FitsNode p → (top : ℕ) → Lowers p (Fair p top)
 fair-lowers p F top s i a g o j f fits = lower-fair p F s i a g j f fits
@@ -251,7 +251,7 @@ module _ (p : Matrix) (F : FitsNode p) (cs : List ℕ) where
       → price p cs X ≡ reduce p (root p cs) .node .bound + total (width p) (λ k. on (X k) (costAt (reduce p (root p cs) .node) k))
   reduce-identity X h =
       let t : Node = reduce p (root p cs) .node in
-      let r : Finished p (Good p cs) (root p cs) t = reduce-done p F (Good p cs) good-lowers (root p cs) (root-good p cs F) in
+      let r : Finished p (Good p cs) (root p cs) t = reduce-done precedes p F (Good p cs) good-lowers (root p cs) (root-good p cs F) in
       let free : (k : ℕ) → k < width p → isFree t k ≡ true = λ k l. rw (r .same-column) (root-free p F cs k l) in
       omega (
         arith,

@@ -12,6 +12,7 @@ use Rattle.node.specs.Stored.{matrixIn, FitsNode}
 use Rattle.rules.specs.declared.Forced.{Forced}
 use Rattle.rules.specs.declared.Goal.{Goal}
 use Rattle.rules.specs.declared.Goal.the-variants.{Sum, Longest}
+use Rattle.rules.specs.Reduce.{precedes}
 use Rattle.rules.specs.Search.{none}
 use Rattle.rules.specs.Tree.{Variant, live, answer}
 use Rattle.rules.specs.Demand.{Demand3}
@@ -39,7 +40,7 @@ pub record Askable (p : Matrix) (q : Requests) : Type 0 where
 goal-laws : (g : Goal) (p : Matrix) → FitsNode p → (cs : List ℕ)
     → (Good : Node → Type 0) × Laws p (searchFor g p) (live (root p cs)) (IsPlan p) (valueFor g p cs) Good
 unfolding searchFor valueFor
-goal-laws Sum p F cs = (Good p cs, sum-laws p F cs)
+goal-laws Sum p F cs = (Good p cs, sum-laws precedes p F cs)
 goal-laws Longest p F cs = (High p cs, longest-laws p F cs)
 
 pub goal-demand-3 : (g : Goal) (p : Matrix) → FitsNode p → (cs : List ℕ) (q : Requests) → Askable p q → (limit : ℕ)

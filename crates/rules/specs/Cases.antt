@@ -6,7 +6,7 @@ use Rattle.node.specs.Lists.{keep, from, member, leastFrom, least, pick, isEmpt
 use Rattle.node.specs.Matrix.{Matrix, covers, meets, Instance}
 use Rattle.node.specs.Node.{freeColumns, freeOf, openRows, taken, root, take, leave}
 use Rattle.rules.specs.Force.{rowsWith, askedBy, asked, forceOn, forceBy, force}
-use Rattle.rules.specs.Reduce.{leastOf, candidates, candidate, byOrder, precedes, rowFirst, lower, reduceOn, reduceBy, reduce}
+use Rattle.rules.specs.Reduce.{leastOf, candidates, candidate, byOrder, inTurn, precedes, rowFirst, lower, reduceOn, reduceBy, reduceWith, reduce}
 use Rattle.rules.specs.Search.{reaches, improve, second, enter, walk, after, best, finished}
 use Rattle.rules.specs.Search.{answerOf}
 use Rattle.rules.specs.Tree.{penaltyOf, plus, aboveP, sameP, withoutBound, zeros, dearer, penalty, rowBefore, sharing}
@@ -25,9 +25,9 @@ fewFree = file 2 (1 ∷ 1 ∷ 2 ∷ []) ((1 ∷ []) ∷ (2 ∷ []) ∷ (1 ∷ []
 abbrev fewLeast : Instance
 fewLeast = file 2 (1 ∷ 2 ∷ 1 ∷ []) ((1 ∷ []) ∷ (2 ∷ []) ∷ (1 ∷ 2 ∷ []) ∷ [])
 
--- 3: row 2 has the larger least cost
-abbrev dearLeast : Instance
-dearLeast = file 2 (1 ∷ 2 ∷ []) ((1 ∷ []) ∷ (2 ∷ []) ∷ [])
+-- 3: row 2 has the smaller least cost
+abbrev cheapLeast : Instance
+cheapLeast = file 2 (2 ∷ 1 ∷ []) ((1 ∷ []) ∷ (2 ∷ []) ∷ [])
 
 -- 4: the column of row 3 covers one row, that of row 1 two
 abbrev shortLeast : Instance
@@ -42,10 +42,10 @@ abbrev lowRow : Instance
 lowRow = file 2 (1 ∷ 1 ∷ []) ((1 ∷ []) ∷ (2 ∷ []) ∷ [])
 
 orders :
-    (order fewFree ∷ order fewLeast ∷ order dearLeast ∷ order shortLeast ∷ order anyShort ∷ order lowRow ∷ [])
+    (order fewFree ∷ order fewLeast ∷ order cheapLeast ∷ order shortLeast ∷ order anyShort ∷ order lowRow ∷ [])
     ≡ ((2 ∷ 1 ∷ []) ∷ (2 ∷ []) ∷ (2 ∷ 1 ∷ []) ∷ (3 ∷ 1 ∷ []) ∷ (1 ∷ []) ∷ (1 ∷ 2 ∷ []) ∷ [])
 unfolding keep from member leastFrom least pick isEmpty covers freeColumns freeOf openRows root leastOf candidates candidate
-    byOrder precedes rowFirst lower reduceOn reduceBy reduce
+    byOrder inTurn precedes rowFirst lower reduceOn reduceBy reduceWith
 orders = refl
 
 -- The choice of the row: of two rows with as many columns at cost 0 and the same penalty, row 2 has fewer free columns
@@ -107,7 +107,7 @@ cases :
     ∷ best 11 9 3 (1 ∷ 2 ∷ [])
     ∷ [])
 unfolding numbered keep from member leastFrom least pick isEmpty first covers meets freeColumns freeOf openRows taken root
-    take leave leastOf candidates candidate byOrder precedes rowFirst lower reduceOn reduceBy reduce rowsWith askedBy asked
+    take leave leastOf candidates candidate byOrder inTurn precedes rowFirst lower reduceOn reduceBy reduceWith rowsWith askedBy asked
     forceOn forceBy force reaches improve second enter walk finished after answerOf zeros dearer penaltyOf penalty
     aboveP sameP rowBefore sharing columnBefore plus withoutBound branchOn reduced living visit fullTree rootBound
     answer

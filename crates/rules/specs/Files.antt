@@ -6,7 +6,7 @@ use Rattle.node.specs.Lists.{keep, from, member, leastFrom, least, pick, isEmpt
 use Rattle.node.specs.Matrix.{Matrix, Instance, covers, meets}
 use Rattle.node.specs.Node.{freeColumns, freeOf, openRows, taken, root, take, leave}
 use Rattle.rules.specs.Force.{rowsWith, askedBy, asked, forceOn, forceBy, force}
-use Rattle.rules.specs.Reduce.{leastOf, candidates, candidate, byOrder, precedes, rowFirst, lower, reduceOn, reduceBy, reduce}
+use Rattle.rules.specs.Reduce.{leastOf, candidates, candidate, byOrder, inTurn, precedes, rowFirst, lower, reduceOn, reduceBy, reduceWith}
 use Rattle.rules.specs.Search.{nothing, plan, reaches, improve, second, enter, walk, after, Answer, best, none, stopped}
 use Rattle.rules.specs.Search.{finished, answerOf}
 use Rattle.rules.specs.Tree.{sum, live, penaltyOf, plus, aboveP, sameP, withoutBound, zeros, dearer, penalty, rowBefore, sharing}
@@ -72,6 +72,7 @@ files :
     ∷ solved example4 6
     ∷ solved example4 5
     ∷ solved example4 3
+    ∷ solved example4 1
     ∷ [])
     ≡
     (best 5 5 1 (1 ∷ [])
@@ -82,12 +83,13 @@ files :
     ∷ stopped nothing 1 2
     ∷ best 17 17 3 (1 ∷ 4 ∷ 7 ∷ [])
     ∷ stopped nothing 17 2
-    ∷ best 42 39 6 (3 ∷ 6 ∷ 9 ∷ [])
-    ∷ stopped (plan 46 (2 ∷ 5 ∷ 10 ∷ [])) 39 5
-    ∷ stopped (plan 49 (5 ∷ 7 ∷ 8 ∷ [])) 39 3
+    ∷ best 42 39 2 (3 ∷ 6 ∷ 9 ∷ [])
+    ∷ best 42 39 2 (3 ∷ 6 ∷ 9 ∷ [])
+    ∷ best 42 39 2 (3 ∷ 6 ∷ 9 ∷ [])
+    ∷ stopped nothing 39 1
     ∷ [])
 unfolding numbered keep from member leastFrom least pick isEmpty first covers meets freeColumns freeOf openRows taken root
-    take leave leastOf candidates candidate byOrder precedes rowFirst lower reduceOn reduceBy reduce rowsWith askedBy asked
+    take leave leastOf candidates candidate byOrder inTurn precedes rowFirst lower reduceOn reduceBy reduceWith rowsWith askedBy asked
     forceOn forceBy force reaches improve second enter walk finished after answerOf zeros dearer penaltyOf penalty
     aboveP sameP rowBefore sharing columnBefore plus withoutBound branchOn reduced living visit fullTree rootBound
     answer

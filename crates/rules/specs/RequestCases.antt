@@ -7,7 +7,7 @@ use Rattle.node.specs.Lists.{keep, from, member, leastFrom, least, pick, isEmpt
 use Rattle.node.specs.Matrix.{Matrix, covers, meets, Instance}
 use Rattle.node.specs.Node.{freeColumns, freeOf, openRows, taken, root, take, leave}
 use Rattle.rules.specs.Force.{rowsWith, askedBy, asked, forceOn, forceBy, force}
-use Rattle.rules.specs.Reduce.{leastOf, candidates, candidate, byOrder, precedes, rowFirst, lower, reduceOn, reduceBy, reduce}
+use Rattle.rules.specs.Reduce.{leastOf, candidates, candidate, byOrder, inTurn, precedes, rowFirst, lower, reduceOn, reduceBy, reduceWith}
 use Rattle.rules.specs.Search.{plan, reaches, improve, second, enter, walk, after, Answer, best, none, stopped, finished}
 use Rattle.rules.specs.Search.{answerOf}
 use Rattle.rules.specs.Tree.{Variant, sum, penaltyOf, plus, aboveP, sameP, withoutBound, zeros, dearer, penalty, rowBefore, sharing}
@@ -65,10 +65,10 @@ requestCases :
     ∷ foundWith twoEach usual (2 ∷ []) (3 ∷ [])
     ∷ [])
     ≡
-    (best 46 42 4 (2 ∷ 5 ∷ 10 ∷ [])
+    (best 46 41 4 (2 ∷ 5 ∷ 10 ∷ [])
     ∷ best 22 18 4 (2 ∷ 5 ∷ 10 ∷ [])
-    ∷ stopped (plan 49 (5 ∷ 7 ∷ 8 ∷ [])) 42 2
-    ∷ best 46 36 5 (2 ∷ 5 ∷ 10 ∷ [])
+    ∷ stopped (plan 49 (5 ∷ 7 ∷ 8 ∷ [])) 41 2
+    ∷ best 46 39 4 (2 ∷ 5 ∷ 10 ∷ [])
     ∷ best 22 18 5 (2 ∷ 5 ∷ 10 ∷ [])
     ∷ none 1
     ∷ none 1
@@ -86,7 +86,7 @@ requestCases :
     ∷ best 3 3 1 (2 ∷ 4 ∷ [])
     ∷ [])
 unfolding numbered keep from member leastFrom least pick isEmpty first covers meets freeColumns freeOf openRows taken root take leave
-    leastOf candidates candidate byOrder precedes rowFirst lower reduceOn reduceBy reduce rowsWith askedBy asked forceOn forceBy force
+    leastOf candidates candidate byOrder inTurn precedes rowFirst lower reduceOn reduceBy reduceWith rowsWith askedBy asked forceOn forceBy force
     reaches improve second enter walk finished after answerOf zeros dearer penaltyOf penalty aboveP sameP rowBefore sharing columnBefore
     plus withoutBound branchOn reduced living visit fullTree rootBound answer largest raised without withAll agreedStart begun
 requestCases = refl

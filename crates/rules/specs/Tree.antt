@@ -11,7 +11,7 @@ use Rattle.node.specs.Matrix.{Matrix, width, span, meets}
 use Rattle.node.specs.Node.{freeColumns, freeOf, openRows, costAt, take, leave, taken}
 use Rattle.rules.specs.declared.Forced.{Forced}
 use Rattle.rules.specs.Force.{force}
-use Rattle.rules.specs.Reduce.{reduce, byOrder}
+use Rattle.rules.specs.Reduce.{byOrder, Comparison, precedes, reduceWith}
 use Rattle.rules.specs.Search.{Incumbent, nothing, reaches, Visit, ended, full, split, Walk, walk, Answer, answerOf}
 
 -- What may differ between searches: forcing, the bound as a column is taken, reducing, and a column's present cost.
@@ -25,9 +25,13 @@ pub record Variant : Type 0 where
 abbrev pub joined : Node → ℕ → ℕ
 joined s j = s .bound + costAt s j
 
--- the search of 01, for the least sum of costs
+-- the search for the least sum of costs, with reducing by any comparison
+abbrev pub sumBy : Comparison → Matrix → Variant
+sumBy before p = record { settle = force joined p; join = joined; lowered = λ s. reduceWith before p s .node; present = costAt }
+
+-- the search of 01
 abbrev pub sum : Matrix → Variant
-sum p = record { settle = force joined p; join = joined; lowered = λ s. reduce p s .node; present = costAt }
+sum = sumBy precedes
 
 -- a start: a first node, and whether it is alive
 abbrev pub live : Node → Forced

@@ -4,3 +4,5 @@ pub mod Demanded
 mod Called
 -- Two empty lists give the answers of before.
 pub mod Unasked
+-- The criteria of reducing change neither none nor the price of best.
+pub mod Comparisons

@@ -3,3 +3,5 @@ pub mod Searching
 pub mod Longest
 pub mod Requests
 pub mod Goals
+-- The search call by any comparison of candidates.
+pub mod Comparisons

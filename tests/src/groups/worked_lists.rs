@@ -1,5 +1,5 @@
-//! Searches with lists of agreed and absent columns (02, P2), with answers that were worked out by hand. Example 4 has three plans: 3 6 9
-//! at 42 (longest duty 14), 2 5 10 at 46 (22) and 5 7 8 at 49 (24).
+//! Searches with lists of agreed and absent columns (02, P2), with answers that were worked out apart from engine and tests. Example 4 has
+//! three plans: 3 6 9 at 42 (longest duty 14), 2 5 10 at 46 (22) and 5 7 8 at 49 (24).
 
 use spp_tests::answers::Answer;
 use spp_tests::files::{self, columns, Columns};
@@ -28,15 +28,15 @@ fn fourth(goal: Goal, agreed: Numbers, absent: Numbers, limit: u32, answer: Answ
 fn fourth_by_sum() -> Vec<Search> {
     let case = |agreed, absent, limit, answer, plan| fourth(Sum, agreed, absent, limit, answer, plan);
     vec![
-        case(&[], &[], LIMIT, best(42, 39, 6, 3), &[3, 6, 9]),
-        case(&[5], &[], LIMIT, best(46, 42, 4, 3), &[2, 5, 10]),
-        case(&[5], &[], 3, stopped_with(49, 42, 3, 3), &[5, 7, 8]),
-        case(&[5], &[], 2, stopped_with(49, 42, 2, 3), &[5, 7, 8]),
-        case(&[5], &[], 1, stopped(42, 1), &[]),
+        case(&[], &[], LIMIT, best(42, 39, 2, 3), &[3, 6, 9]),
+        case(&[5], &[], LIMIT, best(46, 41, 4, 3), &[2, 5, 10]),
+        case(&[5], &[], 3, stopped_with(49, 41, 3, 3), &[5, 7, 8]),
+        case(&[5], &[], 2, stopped_with(49, 41, 2, 3), &[5, 7, 8]),
+        case(&[5], &[], 1, stopped(41, 1), &[]),
         case(&[7], &[], LIMIT, best(49, 49, 2, 3), &[5, 7, 8]),
         case(&[5, 10], &[], LIMIT, best(46, 46, 2, 3), &[2, 5, 10]),
-        case(&[], &[6], LIMIT, best(46, 36, 5, 3), &[2, 5, 10]),
-        case(&[], &[3], LIMIT, best(46, 42, 4, 3), &[2, 5, 10]),
+        case(&[], &[6], LIMIT, best(46, 39, 4, 3), &[2, 5, 10]),
+        case(&[], &[3], LIMIT, best(46, 41, 4, 3), &[2, 5, 10]),
         case(&[3], &[], LIMIT, best(42, 42, 1, 3), &[3, 6, 9]),
         case(&[2], &[], LIMIT, best(46, 46, 1, 3), &[2, 5, 10]),
         case(&[3, 6, 9], &[], 1, best(42, 42, 1, 3), &[3, 6, 9]),

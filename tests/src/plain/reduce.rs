@@ -1,15 +1,13 @@
 //! Reducing: the candidates, the five criteria, and the public call.
 
-use std::cmp::Reverse;
-
 use super::file::parse;
 use super::matrix::Matrix;
 use super::node::{Node, FREE};
 use crate::answers::Reduced;
 
-/// 01's criteria in turn, the smallest first: free columns, those at the least cost, the largest least cost, the smallest number of rows
+/// 01's criteria in turn, the smallest first: free columns, those at the least cost, the least cost (02, P4), the smallest number of rows
 /// of a column at the least cost, the row.
-type Candidate = (u32, u32, Reverse<u32>, u32, usize);
+type Candidate = (u32, u32, u32, u32, usize);
 
 impl Node {
     /// The row as a candidate, if it is one. The row is open.
@@ -29,7 +27,7 @@ impl Node {
                 size = size.min(matrix.size_of(column));
             }
         }
-        (free > 0 && least > 0).then_some((free, at_least, Reverse(least), size, row))
+        (free > 0 && least > 0).then_some((free, at_least, least, size, row))
     }
 
     /// The candidate that comes first by the criteria.
@@ -50,7 +48,7 @@ impl Node {
 
     /// Reduces until there is no candidate; `used` is called with each row used.
     pub fn reduce(&mut self, matrix: &Matrix, mut used: impl FnMut(usize)) {
-        while let Some((_, _, Reverse(least), _, row)) = self.first_candidate(matrix) {
+        while let Some((_, _, least, _, row)) = self.first_candidate(matrix) {
             self.bound += least as u64;
             for &column in matrix.columns_of(row) {
                 if self.marks[column as usize] == FREE {

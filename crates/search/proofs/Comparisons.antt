@@ -1,0 +1,32 @@
+-- The criteria of reducing change neither none nor the price of best (02, P4): two searches of a file that passes its tests, with the same
+-- lists, by any two comparisons of candidates and within any two node limits, are alike. So the search is alike with the one before P4.
+use mathlib.Core.Path.{_≡_}
+use mathlib.Core.List.{List}
+use Prim.Native.Nat.{ℕ}
+use Rattle.refusals.specs.Refusals.{fine}
+use Rattle.refusals.proofs.Laws.{both}
+use Rattle.node.specs.Matrix.{Matrix}
+use Rattle.rules.specs.Reduce.{Comparison, precedes, formerlyPrecedes}
+use Rattle.rules.specs.Requests.{Requests}
+use Rattle.rules.proofs.Comparisons.{comparisons-alike}
+use Rattle.dutyfile.specs.File.{parse, instance, shape}
+use Rattle.dutyfile.proofs.Facts.{Accepted, file-fine}
+use Rattle.matrix.proofs.Accepted.{file-small, file-wide}
+use Rattle.search.specs.Requests.{callFaultWith, faultWith, answerWith}
+use Rattle.search.specs.Comparisons.{comparedAnswer, AlikeFor}
+use Rattle.search.proofs.Listed.{listed}
+
+module _ (file : List ℕ) (q : Requests) (limit places : ℕ) (h : faultWith file limit q places ≡ fine) (further : ℕ) where
+  pub any-alike : (before other : Comparison) → AlikeFor file q before other (comparedAnswer before file limit q) (comparedAnswer other file further q)
+  unfolding callFaultWith faultWith comparedAnswer shape instance
+  any-alike before other =
+      let b = both _ _ h in
+      let a : Accepted file = file-fine file (b .0) in
+      let p : Matrix = instance (parse file) .matrix in
+      comparisons-alike before other p (file-small file a .fits) (parse file .costs) q
+      (listed p (shape file) q (file-wide file a) (both _ _ (b .1) .1)) limit further
+
+  -- the search call as it is, and as it was
+  pub amended-alike : AlikeFor file q precedes formerlyPrecedes (answerWith file limit q) (comparedAnswer formerlyPrecedes file further q)
+  unfolding answerWith comparedAnswer
+  amended-alike = any-alike precedes formerlyPrecedes
