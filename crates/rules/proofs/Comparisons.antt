@@ -1,12 +1,12 @@
 -- Demand 3 holds of the sum search by any comparison of candidates. So two answers, by any two comparisons and within any two node limits,
 -- are alike: what demand 3 says of none and of the price of best speaks of all plans, and of no tree.
-use mathlib.Core.Path.{_≡_, refl, sym, ap, _∙_}
+use mathlib.Core.Path.{_≡_, refl, sym}
 use mathlib.Core.Bool.{Bool, true, false, false≢true}
 use mathlib.Core.List.{List}
 use mathlib.Core.Logic.{_↔_}
 use Prim.Native.Nat.{ℕ}
 use native.Mathlib.Omega.{arith}
-use Rattle.node.specs.Matrix.{Matrix, IsPlan, price, chosen, Shows}
+use Rattle.node.specs.Matrix.{Matrix, IsPlan, price, chosen}
 use Rattle.node.specs.Node.{root}
 use Rattle.node.specs.Stored.{FitsNode}
 use Rattle.rules.specs.Reduce.{Comparison}

@@ -13,7 +13,8 @@ use Rattle.node.specs.Lists.{member, least, pick, on, total}
 use Rattle.node.specs.Matrix.{Matrix, width, IsPlan, price}
 use Rattle.node.specs.Stored.{FitsNode}
 use Rattle.node.specs.Node.{isFree, isOpen, root, costAt, freeColumns, freeOf, openRows}
-use Rattle.rules.specs.Reduce.{leastOf, candidates, lower, Comparison, precedes, rowFirst, Reduced, reduceOn, reduceBy, reduceWith, reduce}
+use Rattle.rules.specs.Reduce.{leastOf, candidates, lower, Comparison, precedes, rowFirst, Reduced, reduceOn, reduceBy, reduceWith}
+use Rattle.rules.specs.Reduce.{reduce}
 use Rattle.node.proofs.Members.{kept, member-keep, pick-member, least-le, least-at, least-mono, keep-lt, keep-short}
 use Rattle.node.proofs.Members.{keep-upto}
 use Rattle.rules.proofs.Sums.{total-cong}
@@ -171,12 +172,14 @@ module _ (before : Comparison) (p : Matrix) (F : FitsNode p) (G : Node → Type 
 
   -- for a loop: the fuel does not matter, so reducing is one step and then reducing
   reduce-on-same : (s : Node) (us xs : List ℕ) → candidates p s ≡ xs → (w u : Node → List ℕ → Reduced)
-      → ((t : Node) (vs : List ℕ) → pending p t < pending p s → w t vs ≡ u t vs) → reduceOn before xs p s us w ≡ reduceOn before xs p s us u
+      → ((t : Node) (vs : List ℕ) → pending p t < pending p s → w t vs ≡ u t vs)
+      → reduceOn before xs p s us w ≡ reduceOn before xs p s us u
   unfolding reduceOn picked next
   reduce-on-same s us [] e w u q = refl
   reduce-on-same s us (i ∷ is) e w u q = q (next s i is e) (us ++ (picked s i is e ∷ [])) (next-falls s i is e)
 
-  reduce-same : (f h : ℕ) (s : Node) (us : List ℕ) → pending p s < f → pending p s < h → reduceBy before f p s us ≡ reduceBy before h p s us
+  reduce-same : (f h : ℕ) (s : Node) (us : List ℕ) → pending p s < f → pending p s < h
+      → reduceBy before f p s us ≡ reduceBy before h p s us
   unfolding reduceBy
   reduce-same zero h s us l m = absurd (omega arith)
   reduce-same (suc f) zero s us l m = absurd (omega arith)

@@ -6,7 +6,8 @@ use Rattle.node.specs.Lists.{keep, from, member, leastFrom, least, pick, isEmpt
 use Rattle.node.specs.Matrix.{Matrix, covers, meets, Instance}
 use Rattle.node.specs.Node.{freeColumns, freeOf, openRows, taken, root, take, leave}
 use Rattle.rules.specs.Force.{rowsWith, askedBy, asked, forceOn, forceBy, force}
-use Rattle.rules.specs.Reduce.{leastOf, candidates, candidate, byOrder, inTurn, precedes, rowFirst, lower, reduceOn, reduceBy, reduceWith, reduce}
+use Rattle.rules.specs.Reduce.{leastOf, candidates, candidate, byOrder, inTurn, precedes, lower, rowFirst, reduceOn, reduceBy}
+use Rattle.rules.specs.Reduce.{reduceWith, reduce}
 use Rattle.rules.specs.Search.{reaches, improve, second, enter, walk, after, best, finished}
 use Rattle.rules.specs.Search.{answerOf}
 use Rattle.rules.specs.Tree.{penaltyOf, plus, aboveP, sameP, withoutBound, zeros, dearer, penalty, rowBefore, sharing}

@@ -1,5 +1,5 @@
--- What no criterion of reducing changes (02, P4): a statement about two answers for the same matrix, costs and requests, x by reducing with
--- one comparison of candidates, y with another, each within a node limit of its own.
+-- What no criterion of reducing changes (02, P4): a statement about two answers for the same matrix, costs and requests, x of the search
+-- that reduces by one comparison of candidates, y of the one that reduces by another, each within a node limit of its own.
 use mathlib.Core.Path.{_≡_}
 use mathlib.Core.Bool.{Bool, false}
 use mathlib.Core.List.{List}
@@ -12,7 +12,7 @@ use Rattle.rules.specs.Search.{Answer, best, isNone, isStopped}
 use Rattle.rules.specs.Tree.{sumBy, rootBound, answer}
 use Rattle.rules.specs.Requests.{Requests, begun, Granted}
 
--- the start of the search with such a comparison, its answer and its root's lower bound (01: root floor)
+-- the search by a comparison: its start, its answer, and the root's lower bound (01: root floor)
 abbrev pub startBy : Comparison → Matrix → List ℕ → Requests → Forced
 startBy before p costs q = begun (sumBy before p) p q (root p costs)
 
@@ -27,6 +27,6 @@ pub record Alike (p : Matrix) (costs : List ℕ) (q : Requests) (before other : 
   pub none-alike : isStopped x ≡ false → isStopped y ≡ false → isNone x ≡ isNone y
   -- Where both are best, the price is the same.
   pub price-alike : (c b n : ℕ) (js : List ℕ) (d e m : ℕ) (ks : List ℕ) → x ≡ best c b n js → y ≡ best d e m ks → c ≡ d
-  -- No plan is priced below the root floor of either.
+  -- No plan that holds every agreed duty and no absent one is priced below the root floor of either.
   pub bound : (X : ℕ → Bool) → Granted p q X → boundBy before p costs q ≤ price p costs X
   pub other-bound : (X : ℕ → Bool) → Granted p q X → boundBy other p costs q ≤ price p costs X

@@ -1,7 +1,7 @@
 -- Example 4 by the former criterion 3 (02, before P4): 01's answers for the node limits 6, 5 and 3.
 use mathlib.Core.Path.{_≡_, refl}
-use mathlib.Core.List.{List, [], _∷_, map}
-use Prim.Native.Nat.{ℕ, suc}
+use mathlib.Core.List.{[], _∷_}
+use Prim.Native.Nat.{ℕ}
 use Rattle.node.specs.Lists.{keep, from, member, leastFrom, least, pick, isEmpty, first}
 use Rattle.node.specs.Matrix.{Matrix, Instance, covers, meets}
 use Rattle.node.specs.Node.{freeColumns, freeOf, openRows, taken, root, take, leave}

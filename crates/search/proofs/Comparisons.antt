@@ -16,8 +16,10 @@ use Rattle.search.specs.Requests.{callFaultWith, faultWith, answerWith}
 use Rattle.search.specs.Comparisons.{comparedAnswer, AlikeFor}
 use Rattle.search.proofs.Listed.{listed}
 
+-- a call that passes its tests, and a further node limit
 module _ (file : List ℕ) (q : Requests) (limit places : ℕ) (h : faultWith file limit q places ≡ fine) (further : ℕ) where
-  pub any-alike : (before other : Comparison) → AlikeFor file q before other (comparedAnswer before file limit q) (comparedAnswer other file further q)
+  pub any-alike : (before other : Comparison)
+      → AlikeFor file q before other (comparedAnswer before file limit q) (comparedAnswer other file further q)
   unfolding callFaultWith faultWith comparedAnswer shape instance
   any-alike before other =
       let b = both _ _ h in

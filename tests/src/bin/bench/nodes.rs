@@ -8,7 +8,6 @@ use spp_tests::{engine, generate, plain};
 use crate::measure;
 use crate::runs::Runs;
 
-const SMALL_FILES: usize = 12;
 const SMALL_REPEATS: usize = 15;
 const LARGE_REPEATS: usize = 5;
 
@@ -20,45 +19,50 @@ pub struct Sample {
     pub repeats: usize,
 }
 
-/// Seeds of files with larger trees for a goal.
-fn large_seeds(goal: Goal) -> &'static [u64] {
+/// The files of a goal, which stay the same whatever the search does. They were chosen by the sizes of their trees before P4.
+struct Chosen {
+    /// Numbers of files from one run of the generator, by the sizes of their trees: 200 to 6,000 nodes.
+    small: [usize; 12],
+    /// Seeds of files with larger trees.
+    large: &'static [u64],
+}
+
+fn chosen(goal: Goal) -> Chosen {
     match goal {
-        // About 10,000, 30,000, 100,000, 300,000 and 500,000 nodes.
-        Goal::Sum => &[118, 138, 160, 521, 353],
-        // About 10,000, 50,000, 100,000 and 200,000 nodes.
-        Goal::Longest => &[10, 547, 491, 295],
+        // The larger ones: about 10,000, 30,000, 100,000, 300,000 and 500,000 nodes.
+        Goal::Sum => Chosen { small: [14, 18, 23, 13, 0, 7, 12, 3, 1, 22, 17, 15], large: &[118, 138, 160, 521, 353] },
+        // The larger ones: about 10,000, 50,000, 100,000 and 200,000 nodes.
+        Goal::Longest => Chosen { small: [62, 96, 68, 127, 1, 128, 58, 40, 84, 49, 106, 24], large: &[10, 547, 491, 295] },
     }
 }
 
-fn sample(goal: Goal, random: &mut Random, limit: u32, repeats: usize) -> Sample {
-    let columns = generate::large_ferry(random);
+fn sample(goal: Goal, columns: Columns, repeats: usize) -> Sample {
     let file = columns.file();
-    let nodes = plain::tree(goal, &file, limit).expect("the file is accepted").answer.nodes;
+    let nodes = engine::search(goal, &file, 1_000_000, &mut [0; 64]).nodes;
     Sample { columns, file, nodes, repeats }
 }
 
-/// Ferry files whose trees for a goal have some hundred to some thousand nodes, and the larger ones.
+/// Ferry files whose trees for a goal have some hundred to some thousand nodes, and larger ones.
 pub fn ferry_files(goal: Goal) -> Vec<Sample> {
-    eprintln!("bench: choosing the ferry files ({goal})");
+    let Chosen { small, large } = chosen(goal);
     let mut random = Random::new(64_256);
-    let mut samples = Vec::new();
-    while samples.len() < SMALL_FILES {
-        let sample = sample(goal, &mut random, 6000, SMALL_REPEATS);
-        if (200..6000).contains(&sample.nodes) {
-            samples.push(sample);
-        }
-    }
-    samples.extend(large_seeds(goal).iter().map(|&seed| sample(goal, &mut Random::new(seed), 1_000_000, LARGE_REPEATS)));
-    samples.sort_by_key(|sample| sample.nodes);
-    samples
+    let count = small.iter().max().map_or(0, |last| last + 1);
+    let made: Vec<Columns> = (0..count).map(|_| generate::large_ferry(&mut random)).collect();
+    let small = small.iter().map(|&number| sample(goal, made[number].clone(), SMALL_REPEATS));
+    let large = large.iter().map(|&seed| sample(goal, generate::large_ferry(&mut Random::new(seed)), LARGE_REPEATS));
+    small.chain(large).collect()
 }
 
 /// The table of a goal, on files that are chosen for it.
 pub fn table(goal: Goal, samples: &[Sample]) {
     println!("## Time for each node, {goal}\n");
-    println!("Ferry-like files, 64 sailings by 256 duties, allowance 1,000,000; the whole call divided by its nodes. Files 1 to");
-    println!("{SMALL_FILES} are the generator's first ones with trees of 200 to 6,000 nodes for this goal, {SMALL_REPEATS} runs each; the");
-    println!("others were chosen by their seeds for the sizes of their trees, {LARGE_REPEATS} runs each.\n");
+    println!(
+        "Ferry-like files, 64 sailings by 256 duties, allowance 1,000,000; the whole call divided by its nodes. The files are"
+    );
+    println!(
+        "the same in every run, chosen for this goal by the sizes of their trees before P4: 200 to 6,000 nodes for files 1 to"
+    );
+    println!("12, {SMALL_REPEATS} runs each, and more for the others, {LARGE_REPEATS} runs each.\n");
     println!("| file | entries | nodes | engine, µs a node | (a), µs a node | ratio |");
     println!("|---|---|---|---|---|---|");
     let mut all = Vec::new();
