@@ -29,7 +29,7 @@ joined s j = s .bound + costAt s j
 abbrev pub sumBy : Comparison → Matrix → Variant
 sumBy before p = record { settle = force joined p; join = joined; lowered = λ s. reduceWith before p s .node; present = costAt }
 
--- the search of 01
+-- the search of 01, by its criteria
 abbrev pub sum : Matrix → Variant
 sum = sumBy precedes
 
