@@ -9,17 +9,16 @@ use lib.ListN.{length, set, take, length-set, length-append}
 use lib.Seq.{take-suc-set}
 use Rattle.node.specs.declared.Node.{Node}
 use Rattle.rules.specs.declared.Candidate.{Candidate}
-use Rattle.node.specs.Lists.{pick}
 use Rattle.node.specs.Passes.{bestIn}
 use Rattle.node.specs.Matrix.{Matrix}
 use Rattle.node.specs.Node.{costAt, freeColumns, freeOf, openRows}
-use Rattle.rules.specs.Reduce.{leastOf, candidates, candidate, precedes, rowFirst, Reduced, reduceBy}
+use Rattle.rules.specs.Reduce.{leastOf, candidates, candidate, precedes, rowFirst, Reduced}
 use Rattle.rules.specs.Reduce as rules
 use Rattle.node.proofs.Members.{least-le}
 use Rattle.rules.proofs.Plans.{FreeIn}
 use Rattle.rules.proofs.Rows.{in-free}
 use Rattle.rules.proofs.Costs.{Fair, Workable, costLimit}
-use Rattle.rules.proofs.Reducing.{pending, pending-fits, lower-least, fair-lowers, reduce-none, reduce-some}
+use Rattle.rules.proofs.Reducing.{pending, pending-fits, usedNext, reduceFrom, lower-least, fair-lowers, reduce-none, reduce-some}
 use Rattle.node.specs.Stored.{matrixIn, FitsNode}
 use Rattle.node.specs.View.{view}
 use Rattle.candidates.specs.Best.{none, bestOf, Chooses}
@@ -47,24 +46,16 @@ unfolding rules.lower candidates leastOf freeOf freeColumns openRows
 lower-left p F s i a left e =
     lowered-same p (s .cost) (rules.lower p s i a .cost) (s .column) (lower-least p F s i a) (s .row) left e
 
--- the row that reducing uses next, i ∷ is the candidates
-abbrev usedNext : Matrix → Node → ℕ → List ℕ → ℕ
-usedNext p s i is = pick (rowFirst precedes p s) i is
-
--- reducing from a node, with the rows us used before
-abbrev reduceFrom : Matrix → Node → List ℕ → Reduced
-reduceFrom p s us = reduceBy precedes (suc (p .rows)) p s us
-
 module _ (p : Matrix) (F : FitsNode p) (s : Node) where
   -- the best candidate is the row picked
   record Picked (best : Candidate) : Type 0 where
     first : ℕ
     rest : List ℕ
     listed : candidates p s ≡ first ∷ rest
-    row-is : best .row ≡ usedNext p s first rest
-    cost-is : best .cost ≡ leastOf p s (usedNext p s first rest)
+    row-is : best .row ≡ usedNext precedes p s first rest
+    cost-is : best .cost ≡ leastOf p s (usedNext precedes p s first rest)
 
-  best-cons : (i : ℕ) (is : List ℕ) → candidates p s ≡ i ∷ is → bestOf p s ≡ candidate p s (usedNext p s i is)
+  best-cons : (i : ℕ) (is : List ℕ) → candidates p s ≡ i ∷ is → bestOf p s ≡ candidate p s (usedNext precedes p s i is)
   unfolding bestIn
   best-cons i is e = rw e
 
@@ -95,7 +86,7 @@ module _ (p : Matrix) (F : FitsNode p) (s : Node) where
       go : (xs : List ℕ) → candidates p s ≡ xs → candidates p s ≡ []
       go [] q = q
       go (i ∷ is) q =
-          let b : ℕ = usedNext p s i is in
+          let b : ℕ = usedNext precedes p s i is in
           let c : best .cost ≡ leastOf p s b = ap (λ (c : Candidate). c .cost) (e ∙ best-cons i is q) in
           absurd (omega (arith, reduce-some precedes p F (Fair p costLimit) (fair-lowers p F costLimit) s [] i is q .above))
 
@@ -105,13 +96,13 @@ record Step (p : Matrix) (now : Node) (i a : ℕ) : Type 0 where
   covered : (j : ℕ) → FreeIn p now i j → a ≤ costAt now j
   falls : pending p (rules.lower p now i a) < pending p now
   fair : Fair p costLimit now → Fair p costLimit (rules.lower p now i a)
-  left : (us : List ℕ) → reduceFrom p now us ≡ reduceFrom p (rules.lower p now i a) (us ++ (i ∷ []))
+  left : (us : List ℕ) → reduceFrom precedes p now us ≡ reduceFrom precedes p (rules.lower p now i a) (us ++ (i ∷ []))
 
 step-picked : (p : Matrix) → FitsNode p → (now : Node) (i : ℕ) (is : List ℕ) → candidates p now ≡ i ∷ is →
-    let b : ℕ = usedNext p now i is in Step p now b (leastOf p now b)
+    let b : ℕ = usedNext precedes p now i is in Step p now b (leastOf p now b)
 unfolding leastOf
 step-picked p F now i is e =
-    let b : ℕ = usedNext p now i is in
+    let b : ℕ = usedNext precedes p now i is in
     let some = reduce-some precedes p F (Fair p costLimit) (fair-lowers p F costLimit) now in
     let t = some [] i is e in
     record {
@@ -125,7 +116,10 @@ step-picked p F now i is e =
 step-best : (p : Matrix) (F : FitsNode p) (now : Node) (best : Candidate) → Picked p F now best → Step p now (best .row) (best .cost)
 step-best p F now best q = go (best .row) (best .cost) (q .row-is) (q .cost-is)
   where
-    go : (i a : ℕ) → i ≡ usedNext p now (q .first) (q .rest) → a ≡ leastOf p now (usedNext p now (q .first) (q .rest)) → Step p now i a
+    b : ℕ
+    b = usedNext precedes p now (q .first) (q .rest)
+
+    go : (i a : ℕ) → i ≡ b → a ≡ leastOf p now b → Step p now i a
     go i a e f = rw (e, f) (step-picked p F now (q .first) (q .rest) (q .listed))
 
 bound-is : (p : Matrix) (now : Node) (i a : ℕ) → rules.lower p now i a .bound ≡ now .bound + a
@@ -148,7 +142,7 @@ pub record Reducing (l : List ℕ) (s now : Node) (left used : List ℕ) (count 
   pub used-is : take count used ≡ map suc rows
   pub count-is : count ≡ length rows
   pub room : count + pending (matrixIn l) now ≤ matrixIn l .rows
-  pub goes-on : reduceFrom (matrixIn l) now rows ≡ rules.reduce (matrixIn l) s
+  pub goes-on : reduceFrom precedes (matrixIn l) now rows ≡ rules.reduce (matrixIn l) s
   pub leaves : Leaves (matrixIn l) now left
   pub best-is : best ≡ bestOf (matrixIn l) now
 

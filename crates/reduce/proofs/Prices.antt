@@ -10,14 +10,14 @@ use lib.Seq.{length-take-le, getD-take}
 use Rattle.refusals.specs.Refusals.{front, filled}
 use Rattle.refusals.proofs.Laws.{both, accepts, fills}
 use Rattle.node.specs.declared.Node.{Node}
-use Rattle.node.specs.Lists.{pick, upto, on, total}
+use Rattle.node.specs.Lists.{upto, on, total}
 use Rattle.node.specs.Matrix.{Matrix, width, IsPlan, price}
 use Rattle.node.specs.Node.{root, costAt}
-use Rattle.rules.specs.Reduce.{leastOf, candidates, precedes, rowFirst, reduceOn, reduceBy}
+use Rattle.rules.specs.Reduce.{leastOf, candidates, precedes, reduceOn, reduceBy}
 use Rattle.rules.specs.Reduce as rules
 use Rattle.node.proofs.Members.{length-from}
 use Rattle.rules.proofs.Sums.{total-cong}
-use Rattle.rules.proofs.Reducing.{reduce-identity}
+use Rattle.rules.proofs.Reducing.{usedNext, reduce-identity}
 use Rattle.dutyfile.specs.File.{columnsIn, parse, instance, shape}
 use Rattle.dutyfile.proofs.Facts.{Accepted, file-fine}
 use Rattle.dutyfile.proofs.Columns.{file-width}
@@ -42,7 +42,7 @@ module _ (p : Matrix) where
           → length (reduceOn precedes xs p s us (λ t vs. reduceBy precedes f p t vs) .node .cost) ≡ 256
       go [] q = h
       go (i ∷ is) q =
-          let b : ℕ = pick (rowFirst precedes p s) i is in
+          let b : ℕ = usedNext precedes p s i is in
           q (rules.lower p s b (leastOf p s b)) (us ++ (b ∷ [])) (lower-long s b (leastOf p s b))
 
   root-long : (cs : List ℕ) → length (rules.reduce p (root p cs) .node .cost) ≡ 256

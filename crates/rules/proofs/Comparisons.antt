@@ -6,20 +6,17 @@ use mathlib.Core.List.{List}
 use mathlib.Core.Logic.{_↔_}
 use Prim.Native.Nat.{ℕ}
 use native.Mathlib.Omega.{arith}
-use Rattle.node.specs.Matrix.{Matrix, IsPlan, price, chosen}
-use Rattle.node.specs.Node.{root}
+use Rattle.node.specs.Matrix.{Matrix, price, chosen}
 use Rattle.node.specs.Stored.{FitsNode}
 use Rattle.rules.specs.Reduce.{Comparison}
 use Rattle.rules.specs.Search.{Answer}
 use Rattle.rules.specs.Tree.{sumBy}
 use Rattle.rules.specs.Demand.{Demand3}
-use Rattle.rules.specs.Requests.{Requests, columnsOf, begun, Granted}
+use Rattle.rules.specs.Requests.{Requests, Granted}
 use Rattle.rules.specs.Comparisons.{startBy, answerBy, Alike}
-use Rattle.rules.proofs.Plans.{root-free}
 use Rattle.rules.proofs.Costs.{Good}
 use Rattle.rules.proofs.Sum.{sum-laws}
-use Rattle.rules.proofs.Agreed.{agreed-demand-3}
-use Rattle.rules.proofs.Requests.{Askable}
+use Rattle.rules.proofs.Requests.{Askable, requested-demand-3}
 
 -- demand 3 of an answer, by a comparison
 abbrev DemandBy : Comparison → Matrix → List ℕ → Requests → ℕ → Answer → Type 0
@@ -27,10 +24,8 @@ DemandBy before p cs q limit x = Demand3 p (sumBy before p) (startBy before p cs
 
 pub comparison-demand-3 : (before : Comparison) (p : Matrix) → FitsNode p → (cs : List ℕ) (q : Requests) → Askable p q → (limit : ℕ)
     → DemandBy before p cs q limit (answerBy before p cs q limit)
-unfolding begun
 comparison-demand-3 before p F cs q a =
-    agreed-demand-3 p F (sumBy before p) (IsPlan p) (price p cs) (Good p cs) (root p cs) (sum-laws before p F cs) (columnsOf (q .agreed))
-    (columnsOf (q .absent)) (a .agreed) (a .absent) (a .distinct) (root-free p F cs)
+    requested-demand-3 p F cs q a (sumBy before p) (price p cs) (Good p cs) (sum-laws before p F cs)
 
 -- two truths of one statement
 same-truth : {A : Type 0} (a b : Bool) → (a ≡ true) ↔ A → (b ≡ true) ↔ A → a ≡ b

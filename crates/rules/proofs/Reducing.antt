@@ -72,6 +72,14 @@ module _ (p : Matrix) where
     pub same-row : t .row ≡ s .row
     pub done : (i : ℕ) → Open p t i → leastOf p t i ≡ 0
 
+-- by a comparison: the row that is used next, i ∷ is the candidates; and reducing from a node, with the rows us used before
+module _ (before : Comparison) (p : Matrix) (s : Node) where
+  abbrev pub usedNext : ℕ → List ℕ → ℕ
+  usedNext i is = pick (rowFirst before p s) i is
+
+  abbrev pub reduceFrom : List ℕ → Reduced
+  reduceFrom us = reduceBy before (suc (p .rows)) p s us
+
 -- row b lowered by a
 module _ (p : Matrix) (F : FitsNode p) (s : Node) (b a : ℕ) where
   lower-open : openRows p (lower p s b a) ≡ openRows p s
@@ -129,7 +137,7 @@ module _ (before : Comparison) (p : Matrix) (F : FitsNode p) (G : Node → Type 
   -- the row picked, i ∷ is the candidates
   module _ (s : Node) (i : ℕ) (is : List ℕ) (e : candidates p s ≡ i ∷ is) where
     picked : ℕ
-    picked = pick (rowFirst before p s) i is
+    picked = usedNext before p s i is
 
     picked-cand : Open p s picked × (0 < leastOf p s picked)
     unfolding picked
@@ -187,18 +195,15 @@ module _ (before : Comparison) (p : Matrix) (F : FitsNode p) (G : Node → Type 
       reduce-on-same s us (candidates p s) refl (λ t vs. reduceBy before f p t vs) (λ t vs. reduceBy before h p t vs)
       (λ t vs n. reduce-same f h t vs (omega arith) (omega arith))
 
-  -- reducing from s, with the rows us used before
-  abbrev pub reduceFrom : Node → List ℕ → Reduced
-  reduceFrom s us = reduceBy before (suc (p .rows)) p s us
-
-  pub reduce-step : (s : Node) (us : List ℕ) → reduceFrom s us ≡ reduceOn before (candidates p s) p s us reduceFrom
+  pub reduce-step : (s : Node) (us : List ℕ)
+      → reduceFrom before p s us ≡ reduceOn before (candidates p s) p s us (λ t vs. reduceFrom before p t vs)
   unfolding reduceBy
   reduce-step s us =
-      reduce-on-same s us (candidates p s) refl (λ t vs. reduceBy before (p .rows) p t vs) reduceFrom
+      reduce-on-same s us (candidates p s) refl (λ t vs. reduceBy before (p .rows) p t vs) (λ t vs. reduceFrom before p t vs)
       (λ t vs n. reduce-same (p .rows) (suc (p .rows)) t vs (omega (arith, pending-fits p s)) (pending-fits p t))
 
   -- with no candidate left reducing is done, and one candidate used leads on
-  pub reduce-none : (s : Node) (us : List ℕ) → candidates p s ≡ [] → reduceFrom s us ≡ record { node = s; used = us }
+  pub reduce-none : (s : Node) (us : List ℕ) → candidates p s ≡ [] → reduceFrom before p s us ≡ record { node = s; used = us }
   unfolding reduceOn
   reduce-none s us e = reduce-step s us ∙ rw e
 
@@ -207,10 +212,10 @@ module _ (before : Comparison) (p : Matrix) (F : FitsNode p) (G : Node → Type 
     pub above : 0 < leastOf p s b
     pub good : G s → G t
     pub falls : pending p t < pending p s
-    pub left : reduceFrom s us ≡ reduceFrom t (us ++ (b ∷ []))
+    pub left : reduceFrom before p s us ≡ reduceFrom before p t (us ++ (b ∷ []))
 
   pub reduce-some : (s : Node) (us : List ℕ) (i : ℕ) (is : List ℕ) → candidates p s ≡ i ∷ is
-      → let b : ℕ = pick (rowFirst before p s) i is in Stepped s (lower p s b (leastOf p s b)) us b
+      → let b : ℕ = usedNext before p s i is in Stepped s (lower p s b (leastOf p s b)) us b
   unfolding reduceOn picked next
   reduce-some s us i is e = record {
     row-open = picked-cand s i is e .0;

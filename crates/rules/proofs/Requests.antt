@@ -43,14 +43,21 @@ unfolding searchFor valueFor
 goal-laws Sum p F cs = (Good p cs, sum-laws precedes p F cs)
 goal-laws Longest p F cs = (High p cs, longest-laws p F cs)
 
+-- demand 3 of any search that keeps its laws, with what a desk asks
+pub requested-demand-3 : (p : Matrix) → FitsNode p → (cs : List ℕ) (q : Requests) → Askable p q
+    → (o : Variant) (value : (ℕ → Bool) → ℕ) (Good : Node → Type 0) → Laws p o (live (root p cs)) (IsPlan p) value Good → (limit : ℕ)
+    → let start : Forced = begun o p q (root p cs) in Demand3 p o start (Granted p q) value limit (answer o p start limit)
+unfolding begun
+requested-demand-3 p F cs q a o value Good L =
+    agreed-demand-3 p F o (IsPlan p) value Good (root p cs) L (columnsOf (q .agreed)) (columnsOf (q .absent)) (a .agreed) (a .absent)
+    (a .distinct) (root-free p F cs)
+
 pub goal-demand-3 : (g : Goal) (p : Matrix) → FitsNode p → (cs : List ℕ) (q : Requests) → Askable p q → (limit : ℕ)
     → let start : Forced = begun (searchFor g p) p q (root p cs) in
     Demand3 p (searchFor g p) start (Granted p q) (valueFor g p cs) limit (answer (searchFor g p) p start limit)
-unfolding begun
 goal-demand-3 g p F cs q a =
     let L = goal-laws g p F cs in
-    agreed-demand-3 p F (searchFor g p) (IsPlan p) (valueFor g p cs) (L .0) (root p cs) (L .1) (columnsOf (q .agreed))
-    (columnsOf (q .absent)) (a .agreed) (a .absent) (a .distinct) (root-free p F cs)
+    requested-demand-3 p F cs q a (searchFor g p) (valueFor g p cs) (L .0) (L .1)
 
 pub begun-workable : (g : Goal) (l cs : List ℕ) (q : Requests) → Askable (matrixIn l) q → WorkableFor g l (root (matrixIn l) cs)
     → WorkableFor g l (begun (searchFor g (matrixIn l)) (matrixIn l) q (root (matrixIn l) cs) .node)

@@ -2,17 +2,11 @@
 use mathlib.Core.Path.{_≡_, refl}
 use mathlib.Core.List.{List, [], _∷_, map}
 use Prim.Native.Nat.{ℕ, suc}
-use Rattle.node.specs.Lists.{keep, from, member, leastFrom, least, pick, isEmpty, first}
-use Rattle.node.specs.Matrix.{Matrix, covers, meets, Instance}
-use Rattle.node.specs.Node.{freeColumns, freeOf, openRows, taken, root, take, leave}
-use Rattle.rules.specs.Force.{rowsWith, askedBy, asked, forceOn, forceBy, force}
-use Rattle.rules.specs.Reduce.{leastOf, candidates, candidate, byOrder, inTurn, precedes, lower, rowFirst, reduceOn, reduceBy}
-use Rattle.rules.specs.Reduce.{reduceWith, reduce}
-use Rattle.rules.specs.Search.{reaches, improve, second, enter, walk, after, best, finished}
-use Rattle.rules.specs.Search.{answerOf}
-use Rattle.rules.specs.Tree.{penaltyOf, plus, aboveP, sameP, withoutBound, zeros, dearer, penalty, rowBefore, sharing}
-use Rattle.rules.specs.Tree.{columnBefore, branchOn, reduced, living, visit, fullTree, rootBound, answer}
-use Rattle.rules.specs.Files.{file, numbered, solved, usual}
+use Rattle.node.specs.Matrix.{Matrix, Instance}
+use Rattle.node.specs.Node.{root}
+use Rattle.rules.specs.Reduce.{reduce}
+use Rattle.rules.specs.Search.{best}
+use Rattle.rules.specs.Files.{file, told, solved, usual}
 
 -- The five criteria, by the rows in the sequence that reducing uses them, numbered from 1.
 abbrev order : Instance → List ℕ
@@ -45,8 +39,7 @@ lowRow = file 2 (1 ∷ 1 ∷ []) ((1 ∷ []) ∷ (2 ∷ []) ∷ [])
 orders :
     (order fewFree ∷ order fewLeast ∷ order cheapLeast ∷ order shortLeast ∷ order anyShort ∷ order lowRow ∷ [])
     ≡ ((2 ∷ 1 ∷ []) ∷ (2 ∷ []) ∷ (2 ∷ 1 ∷ []) ∷ (3 ∷ 1 ∷ []) ∷ (1 ∷ []) ∷ (1 ∷ 2 ∷ []) ∷ [])
-unfolding keep from member leastFrom least pick isEmpty covers freeColumns freeOf openRows root leastOf candidates candidate
-    byOrder inTurn precedes rowFirst lower reduceOn reduceBy reduceWith
+unfolding told
 orders = refl
 
 -- The choice of the row: of two rows with as many columns at cost 0 and the same penalty, row 2 has fewer free columns
@@ -107,9 +100,5 @@ cases :
     ∷ best 4 2 3 (2 ∷ 5 ∷ [])
     ∷ best 11 9 3 (1 ∷ 2 ∷ [])
     ∷ [])
-unfolding numbered keep from member leastFrom least pick isEmpty first covers meets freeColumns freeOf openRows taken root
-    take leave leastOf candidates candidate byOrder inTurn precedes rowFirst lower reduceOn reduceBy reduceWith rowsWith askedBy asked
-    forceOn forceBy force reaches improve second enter walk finished after answerOf zeros dearer penaltyOf penalty
-    aboveP sameP rowBefore sharing columnBefore plus withoutBound branchOn reduced living visit fullTree rootBound
-    answer
+unfolding told
 cases = refl

@@ -5,11 +5,13 @@ use Prim.Native.Nat.{ℕ, suc}
 use Rattle.node.specs.Lists.{keep, from, member, leastFrom, least, pick, isEmpty, first}
 use Rattle.node.specs.Matrix.{Matrix, Instance, covers, meets}
 use Rattle.node.specs.Node.{freeColumns, freeOf, openRows, taken, root, take, leave}
+use Rattle.rules.specs.declared.Forced.{Forced}
 use Rattle.rules.specs.Force.{rowsWith, askedBy, asked, forceOn, forceBy, force}
-use Rattle.rules.specs.Reduce.{leastOf, candidates, candidate, byOrder, inTurn, precedes, rowFirst, lower, reduceOn, reduceBy, reduceWith}
+use Rattle.rules.specs.Reduce.{leastOf, candidates, candidate, byOrder, inTurn, Comparison, precedes, formerlyPrecedes, lower}
+use Rattle.rules.specs.Reduce.{rowFirst, reduceOn, reduceBy, reduceWith}
 use Rattle.rules.specs.Search.{nothing, plan, reaches, improve, second, enter, walk, after, Answer, best, none, stopped}
 use Rattle.rules.specs.Search.{finished, answerOf}
-use Rattle.rules.specs.Tree.{sum, live, penaltyOf, plus, aboveP, sameP, withoutBound, zeros, dearer, penalty, rowBefore, sharing}
+use Rattle.rules.specs.Tree.{Variant, sumBy, live, penaltyOf, plus, aboveP, sameP, withoutBound, zeros, dearer, penalty, rowBefore, sharing}
 use Rattle.rules.specs.Tree.{columnBefore, branchOn, reduced, living, visit, fullTree, rootBound, answer}
 
 -- m rows, and the cost and the body of each column
@@ -52,8 +54,19 @@ numbered (none n) = none n
 numbered (stopped nothing b n) = stopped nothing b n
 numbered (stopped (plan c js) b n) = stopped (plan c (map suc js)) b n
 
+-- The answer of a search, numbered so. A table that unfolds this unfolds all that an answer of the sum search is computed with.
+unfoldable pub told : Variant → Matrix → Forced → ℕ → Answer
+unfolding numbered keep from member leastFrom least pick isEmpty first covers meets freeColumns freeOf openRows taken root take
+    leave leastOf candidates candidate byOrder inTurn precedes formerlyPrecedes rowFirst lower reduceOn reduceBy reduceWith
+    rowsWith askedBy asked forceOn forceBy force reaches improve second enter walk finished after answerOf zeros dearer penaltyOf
+    penalty aboveP sameP rowBefore sharing columnBefore plus withoutBound branchOn reduced living visit fullTree rootBound answer
+told o m start limit = numbered (answer o m start limit)
+
+abbrev pub solvedBy : Comparison → Instance → ℕ → Answer
+solvedBy before p limit = let m : Matrix = p .matrix in told (sumBy before m) m (live (root m (p .costs))) limit
+
 abbrev pub solved : Instance → ℕ → Answer
-solved p limit = let m : Matrix = p .matrix in numbered (answer (sum m) m (live (root m (p .costs))) limit)
+solved = solvedBy precedes
 
 -- the limit where 01 names none
 abbrev pub usual : ℕ
@@ -88,9 +101,5 @@ files :
     ∷ best 42 39 2 (3 ∷ 6 ∷ 9 ∷ [])
     ∷ stopped nothing 39 1
     ∷ [])
-unfolding numbered keep from member leastFrom least pick isEmpty first covers meets freeColumns freeOf openRows taken root
-    take leave leastOf candidates candidate byOrder inTurn precedes rowFirst lower reduceOn reduceBy reduceWith rowsWith askedBy asked
-    forceOn forceBy force reaches improve second enter walk finished after answerOf zeros dearer penaltyOf penalty
-    aboveP sameP rowBefore sharing columnBefore plus withoutBound branchOn reduced living visit fullTree rootBound
-    answer
+unfolding told
 files = refl

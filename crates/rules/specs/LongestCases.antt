@@ -3,20 +3,15 @@
 use mathlib.Core.Path.{_≡_, refl}
 use mathlib.Core.List.{[], _∷_}
 use Prim.Native.Nat.{ℕ}
-use Rattle.node.specs.Lists.{keep, from, member, leastFrom, least, pick, isEmpty, first}
-use Rattle.node.specs.Matrix.{Matrix, covers, meets, Instance}
-use Rattle.node.specs.Node.{freeColumns, freeOf, openRows, taken, root, take, leave}
-use Rattle.rules.specs.Force.{rowsWith, askedBy, asked, forceOn, forceBy, force}
-use Rattle.rules.specs.Reduce.{leastOf, byOrder}
-use Rattle.rules.specs.Search.{nothing, plan, reaches, improve, second, enter, walk, after, Answer, best, none, stopped}
-use Rattle.rules.specs.Search.{finished, answerOf}
-use Rattle.rules.specs.Tree.{live, penaltyOf, plus, aboveP, sameP, withoutBound, zeros, dearer, penalty, rowBefore, sharing}
-use Rattle.rules.specs.Tree.{columnBefore, branchOn, reduced, living, visit, fullTree, rootBound, answer}
-use Rattle.rules.specs.Files.{file, numbered, usual, pairs, example1}
+use Rattle.node.specs.Matrix.{Matrix, Instance}
+use Rattle.node.specs.Node.{root}
+use Rattle.rules.specs.Search.{nothing, plan, Answer, best, none, stopped}
+use Rattle.rules.specs.Tree.{live}
+use Rattle.rules.specs.Files.{file, told, usual, pairs, example1}
 use Rattle.rules.specs.Longest.{largest, raised, longest}
 
 abbrev found : Instance → ℕ → Answer
-found p limit = let m : Matrix = p .matrix in numbered (answer (longest m) m (live (root m (p .costs))) limit)
+found p limit = let m : Matrix = p .matrix in told (longest m) m (live (root m (p .costs))) limit
 
 -- The bound: an open row gives it, 5; the costs 2 and 3 of row 1 are below it, so row 1 has two columns at cost 0, and row 2 is chosen
 abbrev openRow : Instance
@@ -74,8 +69,5 @@ longestCases :
     ∷ stopped (plan 7 (1 ∷ 4 ∷ [])) 4 2
     ∷ stopped nothing 4 1
     ∷ [])
-unfolding numbered keep from member leastFrom least pick isEmpty first covers meets freeColumns freeOf openRows taken root take leave
-    leastOf byOrder rowsWith askedBy asked forceOn forceBy force reaches improve second enter walk finished after answerOf zeros dearer
-    penaltyOf penalty aboveP sameP rowBefore sharing columnBefore plus withoutBound branchOn reduced living visit fullTree rootBound
-    answer largest raised
+unfolding told largest raised
 longestCases = refl

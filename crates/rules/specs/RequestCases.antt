@@ -3,16 +3,11 @@
 use mathlib.Core.Path.{_≡_, refl}
 use mathlib.Core.List.{List, [], _∷_}
 use Prim.Native.Nat.{ℕ}
-use Rattle.node.specs.Lists.{keep, from, member, leastFrom, least, pick, isEmpty, first}
-use Rattle.node.specs.Matrix.{Matrix, covers, meets, Instance}
-use Rattle.node.specs.Node.{freeColumns, freeOf, openRows, taken, root, take, leave}
-use Rattle.rules.specs.Force.{rowsWith, askedBy, asked, forceOn, forceBy, force}
-use Rattle.rules.specs.Reduce.{leastOf, candidates, candidate, byOrder, inTurn, precedes, rowFirst, lower, reduceOn, reduceBy, reduceWith}
-use Rattle.rules.specs.Search.{plan, reaches, improve, second, enter, walk, after, Answer, best, none, stopped, finished}
-use Rattle.rules.specs.Search.{answerOf}
-use Rattle.rules.specs.Tree.{Variant, sum, penaltyOf, plus, aboveP, sameP, withoutBound, zeros, dearer, penalty, rowBefore, sharing}
-use Rattle.rules.specs.Tree.{columnBefore, branchOn, reduced, living, visit, fullTree, rootBound, answer}
-use Rattle.rules.specs.Files.{file, numbered, usual, example4}
+use Rattle.node.specs.Matrix.{Matrix, Instance}
+use Rattle.node.specs.Node.{root}
+use Rattle.rules.specs.Search.{plan, Answer, best, none, stopped}
+use Rattle.rules.specs.Tree.{Variant, sum}
+use Rattle.rules.specs.Files.{file, told, usual, example4}
 use Rattle.rules.specs.Longest.{largest, raised, longest}
 use Rattle.rules.specs.Agreed.{without, withAll, agreedStart}
 use Rattle.rules.specs.Requests.{asking, begun}
@@ -20,7 +15,7 @@ use Rattle.rules.specs.Requests.{asking, begun}
 abbrev with : (Matrix → Variant) → Instance → ℕ → List ℕ → List ℕ → Answer
 with search p limit agreed absent =
     let m : Matrix = p .matrix in
-    numbered (answer (search m) m (begun (search m) m (asking agreed absent) (root m (p .costs))) limit)
+    told (search m) m (begun (search m) m (asking agreed absent) (root m (p .costs))) limit
 
 abbrev solvedWith : Instance → ℕ → List ℕ → List ℕ → Answer
 solvedWith = with sum
@@ -85,8 +80,5 @@ requestCases :
     ∷ best 9 9 2 (1 ∷ 3 ∷ [])
     ∷ best 3 3 1 (2 ∷ 4 ∷ [])
     ∷ [])
-unfolding numbered keep from member leastFrom least pick isEmpty first covers meets freeColumns freeOf openRows taken root take leave
-    leastOf candidates candidate byOrder inTurn precedes rowFirst lower reduceOn reduceBy reduceWith rowsWith askedBy asked forceOn forceBy force
-    reaches improve second enter walk finished after answerOf zeros dearer penaltyOf penalty aboveP sameP rowBefore sharing columnBefore
-    plus withoutBound branchOn reduced living visit fullTree rootBound answer largest raised without withAll agreedStart begun
+unfolding told largest raised without withAll agreedStart begun
 requestCases = refl

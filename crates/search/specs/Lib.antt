@@ -3,5 +3,3 @@ pub mod Searching
 pub mod Longest
 pub mod Requests
 pub mod Goals
--- The search call by any comparison of candidates.
-pub mod Comparisons
