@@ -2,15 +2,36 @@
 use mathlib.Core.Path.{_≡_, refl, sym, _∙_}
 use mathlib.Core.Bool.{Bool, true, false}
 use mathlib.Core.List.{List}
-use Prim.Native.Nat.{ℕ, _+_, _-_, _≤_}
+use Prim.Native.Nat.{ℕ, _+_, _-_, _≤_, _<_}
 use native.Mathlib.Nat.{zero-add}
 use lib.ListN.{length, getD, take, drop}
 use lib.Seq.{sets, sets-eq, getD-drop, getD-append-add, take-append-seam}
 use native.Mathlib.Omega.{arith}
 use Rattle.refusals.specs.Refusals.{Fault, fine, fault, ask, _then_, numberOf, faultOf, Outcome, accepted, refused, unless, front, filled}
 use Rattle.refusals.specs.declared.Refusal.{Refusal}
+use Rattle.refusals.specs.declared.Refusal.the-variants.{Magic, Counts, Contents, Cost, Length, Total, Start, End, Row, Room, NodeLimit, Offered, Lists, Agreed, Absent, TableSize, TableCost}
 use Rattle.refusals.specs.declared.Check.{Check}
 use Rattle.refusals.specs.declared.Check.the-variants.{Passed, Failed}
+
+-- no refusal has the number 0
+pub numbered : (w : Refusal) → 0 < numberOf w
+numbered Magic = omega arith
+numbered Counts = omega arith
+numbered Contents = omega arith
+numbered Cost = omega arith
+numbered Length = omega arith
+numbered Total = omega arith
+numbered Start = omega arith
+numbered End = omega arith
+numbered Row = omega arith
+numbered Room = omega arith
+numbered NodeLimit = omega arith
+numbered Offered = omega arith
+numbered Lists = omega arith
+numbered Agreed = omega arith
+numbered Absent = omega arith
+numbered TableSize = omega arith
+numbered TableCost = omega arith
 
 -- after a test that failed, and after one that passed
 pub stops-at : {a : Fault} (k : ℕ) (b : Fault) → a ≡ fault k → (a then b) ≡ fault k

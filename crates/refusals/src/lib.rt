@@ -34,6 +34,10 @@ pub enum Refusal {
     Agreed,
     // An absent column is out of range or not rising.
     Absent,
+    // The crews or the vessels of a table are out of range, or there are more crews than vessels.
+    TableSize,
+    // A cost in a table is out of range.
+    TableCost,
 }
 
 // What a test, or a sequence of tests, comes to.
@@ -62,5 +66,7 @@ pub fn number(why: Refusal) -> u32
         Refusal::Lists => 13,
         Refusal::Agreed => 14,
         Refusal::Absent => 15,
+        Refusal::TableSize => 16,
+        Refusal::TableCost => 17,
     }
 }

@@ -1,34 +1,16 @@
 -- What is seen of the struct is what is seen of the search call's answer: no refusal has the number 0, and the outcomes' numbers differ.
 use mathlib.Core.Path.{_≡_, refl}
 use mathlib.Core.List.{List}
-use Prim.Native.Nat.{ℕ, _<_}
+use Prim.Native.Nat.{ℕ}
 use native.Mathlib.Omega.{arith}
-use Rattle.refusals.specs.Refusals.{accepted, numberOf}
-use Rattle.refusals.specs.declared.Refusal.{Refusal}
-use Rattle.refusals.specs.declared.Refusal.the-variants.{Magic, Counts, Contents, Cost, Length, Total, Start, End, Row, Room, NodeLimit, Offered, Lists, Agreed, Absent}
+use Rattle.refusals.specs.Refusals.{accepted}
+use Rattle.refusals.proofs.Laws.{numbered}
 use Rattle.rules.specs.Search.{Answer}
 use Rattle.answer.specs.declared.SearchAnswer.{SearchAnswer}
 use Rattle.answer.specs.declared.SearchAnswer.the-variants.{Best, None, Stopped, StoppedWith, Refused}
 use Rattle.answer.specs.Answer.{searchOutcome, seen}
 use Rattle.flat.specs.declared.SppAnswer.{SppAnswer}
 use Rattle.flat.specs.Flat.{answerOf, seenIn}
-
-numbered : (w : Refusal) → 0 < numberOf w
-numbered Magic = omega arith
-numbered Counts = omega arith
-numbered Contents = omega arith
-numbered Cost = omega arith
-numbered Length = omega arith
-numbered Total = omega arith
-numbered Start = omega arith
-numbered End = omega arith
-numbered Row = omega arith
-numbered Room = omega arith
-numbered NodeLimit = omega arith
-numbered Offered = omega arith
-numbered Lists = omega arith
-numbered Agreed = omega arith
-numbered Absent = omega arith
 
 seen-flat : (a : SearchAnswer) (list : List ℕ) → answerOf (searchOutcome a) .refusal ≡ 0 → seen a list ≡ accepted (seenIn (answerOf (searchOutcome a)) list)
 unfolding seen searchOutcome answerOf seenIn

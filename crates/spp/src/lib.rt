@@ -1,5 +1,6 @@
 // The engine for C: each exported function makes one call and gives its answer as a struct of numbers. A list is a pointer and a number of
 // places.
+use assigned::SppAssigned;
 use flat::SppAnswer;
 use flat::SppChecked;
 use flat::SppReduced;
@@ -19,6 +20,9 @@ ghost use Rattle.dutyfile.specs.Faults.{reading, writing};
 ghost use Rattle.verify.specs.Verdict.{checking};
 ghost use Rattle.reduce.specs.Answer.{reducing, reducedCosts, usedRows};
 ghost use Rattle.search.specs.Requests.{searchingWith, planListWith, longestSearchingWith, longestListWith};
+ghost use Rattle.assign.specs.Answer.{assigning, vesselList};
+ghost use Rattle.assign.specs.Assigned.{Assigned};
+ghost use Rattle.assigned.specs.Struct.{assignedOf, outcomeIn};
 ghost use Rattle.flat.specs.Flat.{shapeOf, writtenOf, checkedOf, reducedOf, answerOf, seenIn};
 
 // Reads a duty file: m, n and t, with the front of each list filled; or a refusal, with every list as it was.
@@ -110,4 +114,22 @@ pub extern "C" fn spp_core_longest(
 {
     let answer = search::longest(file, node_limit, agreed, absent, plan);
     flat::flat_answer(answer)
+}
+
+// Gives each crew a vessel of its own at the least total, by a table of 16 rows of 16 prices: best with the total and the vessel of each crew,
+// counted from 1, at the front of the list, of equals the assignment whose vessel numbers come first; or none or a refusal, with the list as
+// it was.
+#[no_mangle]
+pub extern "C" fn spp_core_assign(
+    crews: usize,
+    vessels: usize,
+    table: &[[u32; 16]; 16],
+    answer: &mut [u8],
+) -> SppAssigned
+    ensures { λ r. ⌜ r ≡ assignedOf (assigning (now (table .entry)) crews vessels (length (now (answer .entry)))) ⌝ }
+    ensures { λ _. ⌜ now (answer .exit) ≡ filled (assigning (now (table .entry)) crews vessels (length (now (answer .entry)))) (vesselList (now (table .entry)) crews vessels) (now (answer .entry)) ⌝ }
+    ensures { λ r. ⌜ Assigned (now (table .entry)) crews vessels (outcomeIn r) (now (answer .exit)) ⌝ }
+{
+    let found = assign::assign(crews, vessels, *table, answer);
+    assigned::flat_assigned(found)
 }

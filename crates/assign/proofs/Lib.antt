@@ -1,0 +1,4 @@
+mod Tests
+mod Answers
+pub mod Outside
+mod Cases
