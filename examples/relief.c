@@ -1,5 +1,5 @@
 /*
- * Relief days: gives each crew of a table a vessel of its own at the least total, and prints each crew's vessel and price, and the total.
+ * Relief days: gives each crew of a table a vessel of its own at the least total, and prints the total and each crew's vessel and price.
  *
  *     gcc -Iinclude examples/relief.c target/staticlib/libspp.a -o relief
  *     ./relief

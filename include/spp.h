@@ -51,7 +51,7 @@ extern "C" {
 #define SPP_BAD_TABLE 16      /* the table has no crews, above 16 crews or vessels, or more crews than vessels */
 #define SPP_BAD_TABLE_COST 17 /* a cost in the table is above 1,000,000 */
 #define SPP_OVERLAP 100       /* two lent lists overlap, or a list reaches beyond the address space */
-#define SPP_NULL 101          /* a null pointer was lent with a number of places above 0, or for a struct */
+#define SPP_NULL 101          /* a null pointer was lent with a number of places above 0, or for a struct or a table */
 
 /*
  * Values of `outcome`; 0 with a refusal. Plans are those that hold every agreed column and no absent one (struct spp_lists). For

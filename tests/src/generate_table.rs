@@ -1,5 +1,5 @@
-//! Generated tables of crews against vessels (02, P5), within P5's limits. Each kind makes a table of the size given; the same seed makes the
-//! same tables.
+//! Generated tables of crews against vessels, within the limits of 02, P5. Each kind makes a table of the size given; the same seed makes
+//! the same tables.
 
 use crate::random::Random;
 use crate::table::Table;

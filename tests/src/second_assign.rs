@@ -1,6 +1,6 @@
-//! A second solver for crews onto vessels (02, P5). It starts from any assignment and cancels negative cycles until there is none, on weights
-//! that hold the total and behind it the vessel numbers read crew by crew, so that the least weight is that of the answer. It knows no refusal:
-//! the tables are within P5's limits. Small tables are also gone through assignment by assignment.
+//! A second solver for crews onto vessels (02, P5). It starts from any assignment and cancels negative cycles until there is none, on
+//! weights that hold the total and behind it the vessel numbers read crew by crew, so that the least weight is that of the answer. It knows
+//! no refusal: the tables are within P5's limits. Small tables can also be gone through assignment by assignment.
 
 use crate::table::Table;
 
@@ -10,7 +10,7 @@ pub type Found = Option<(u64, Vec<u8>)>;
 /// The vessel numbers of an assignment are the digits of a number to this base, the first crew's the highest of 16.
 const BASE: i128 = 17;
 
-/// Crews with a vessel each, counted from 0. Behind the crews of the table stand crews for the vessels left, whose pairings weigh nothing.
+/// Crews with a vessel each, counted from 0. Behind those of the table stand crews for the vessels left, whose pairings weigh nothing.
 struct Square<'a> {
     table: &'a Table,
     vessel_of: Vec<usize>,

@@ -1,10 +1,11 @@
-//! The refusals of crews onto vessels (02, P5), with stated numbers: counts out of range, a price out of range at each place, short answer
-//! lists, and several faults at once, which show the sequence 16, 17, 10. Faults outside the crews and vessels given are none.
+//! The refusals of crews onto vessels (02, P5), with stated numbers: counts out of range, a cost out of range at each place, short answer
+//! lists, and several faults at once, which show the sequence 16, 17, 10. A cost outside the crews and vessels given is no fault.
 
 use spp_tests::generate_table;
 use spp_tests::random::Random;
 use spp_tests::table::{Table, MOST};
 
+use super::assign_case;
 use crate::compare;
 use crate::report::Report;
 
@@ -16,7 +17,6 @@ const DEAR: [u32; 3] = [1_000_001, 1 << 31, u32::MAX];
 
 pub fn run(report: &mut Report) {
     let mut random = Random::new(17);
-    report.group("crews onto vessels: refusals 16, 17 and 10, each alone and several at once");
     counts(report, &mut random);
     for (crews, vessels) in SIZES {
         let table = generate_table::dense(&mut random, crews, vessels);
@@ -26,8 +26,13 @@ pub fn run(report: &mut Report) {
     }
 }
 
-/// The call has the stated refusal, or none for 0.
+/// The call has the stated refusal; for 0 it has none, and its answer is held to (a) and the second solver.
 fn refuses(report: &mut Report, table: &Table, room: usize, wanted: u32) {
+    if wanted == 0 {
+        assign_case::accepted(report, table, room);
+        return;
+    }
+    report.group("crews onto vessels: refusals 16, 17 and 10, each alone and several at once");
     let found = compare::assign(report, table, room).0;
     report.same(&found.refusal, &wanted, || format!("room {room}, {}", table.text()));
 }
@@ -47,17 +52,18 @@ fn counts(report: &mut Report, random: &mut Random) {
     }
 }
 
-/// A cost out of range at each place, which counts inside alone; outside it leaves the answer as it is. The largest cost and a closed pairing
-/// are no fault.
+/// A cost out of range at each place, which counts inside alone; outside it leaves the answer as it is. The largest cost and a closed
+/// pairing are no fault.
 fn each_place(report: &mut Report, table: &Table) {
-    let found = compare::assign(report, table, table.crews);
+    let found = assign_case::accepted(report, table, table.crews);
     for place in 0..MOST * MOST {
         for cost in DEAR {
             let damaged = table.with(place, cost);
             if table.is_inside(place) {
                 refuses(report, &damaged, table.crews, 17);
             } else {
-                let other = compare::assign(report, &damaged, table.crews);
+                let other = assign_case::accepted(report, &damaged, table.crews);
+                report.group("crews onto vessels: a cost out of range outside, the same answer");
                 report.same(&other, &found, || format!("{cost} at place {place}, {}", table.text()));
             }
         }

@@ -1,12 +1,11 @@
-//! Generated tables of crews against vessels (02, P5): each kind in every size, each table with several fillings of the places outside the crews
-//! and vessels given, which must give the same answer.
+//! Generated tables of crews against vessels (02, P5): each kind in every size, each table with two fillings of the places outside the
+//! crews and vessels given, which must give the same answer.
 
 use spp_tests::generate_table::{Kind, KINDS};
 use spp_tests::random::Random;
-use spp_tests::table::{Table, MOST};
+use spp_tests::table::MOST;
 
 use super::assign_case;
-use crate::compare;
 use crate::report::Report;
 
 /// Tables of each kind and size, by the number of vessels.
@@ -40,27 +39,21 @@ pub fn run(report: &mut Report) {
     }
 }
 
-/// A table with rubbish outside, and longer answer lists in some cases.
+/// A table with rubbish outside, and with one number outside: the same answer. Some answer lists are longer than the crews.
 fn one_table(report: &mut Report, kind: &Kind, random: &mut Random, size: (usize, usize), totals: &mut Totals) {
     let table = (kind.make)(random, size.0, size.1);
-    let filled = table.with_outside(|| rubbish(random));
-    let found = assign_case::accepted(report, &filled, size.0 + random.within(0, 3));
+    let room = size.0 + random.within(0, 3);
+    let found = assign_case::accepted(report, &table.with_outside(|| rubbish(random)), room);
+    let same = [0, 1, 1_000_001, u32::MAX][random.within(0, 3)];
+    let other = assign_case::accepted(report, &table.with_outside(|| same), room);
+    report.group("crews onto vessels: two fillings of the places outside, the same answer");
+    report.same(&other, &found, || format!("outside {same} or rubbish, {}", table.text()));
     totals.best += found.is_some() as usize;
     totals.none += found.is_none() as usize;
-    let other = [0, 1, 1_000_001, u32::MAX][random.within(0, 3)];
-    report.group("crews onto vessels: another filling of the places outside, the same answer");
-    same_answer(report, &filled, &table.with_outside(|| other));
 }
 
 /// Legal costs, 0 and costs above the range.
 fn rubbish(random: &mut Random) -> u32 {
     let any = random.number() as u32;
     [0, 1, random.within(1, 1_000_000) as u32, 1_000_001, u32::MAX, any][random.within(0, 5)]
-}
-
-/// The answers and the vessels for two tables are equal.
-fn same_answer(report: &mut Report, first: &Table, second: &Table) {
-    let found = compare::assign(report, first, first.crews);
-    let other = compare::assign(report, second, first.crews);
-    report.same(&other, &found, || format!("{}, and otherwise filled {}", first.text(), second.text()));
 }

@@ -1,5 +1,5 @@
-//! The paper's examples 5 and 6 and small tables of crews against vessels (02, P5), with stated totals and vessels; and the largest table on a
-//! thread with a stack of 2 MiB.
+//! The paper's examples 5 and 6 and other tables of crews against vessels (02, P5), with stated totals and vessels; and the largest table
+//! on a thread with a stack of 2 MiB.
 
 use spp_tests::answers::{Assigned, BEST};
 use spp_tests::engine;
@@ -82,7 +82,7 @@ fn none_cases() -> Vec<Case> {
 pub fn run(report: &mut Report) {
     for Case { name, table, stated } in square_cases().into_iter().chain(wide_cases()).chain(none_cases()) {
         let found = assign_case::accepted(report, &table, table.crews);
-        report.group("crews onto vessels: stated values, the paper's examples 5 and 6 and small tables");
+        report.group("crews onto vessels: stated values, the paper's examples 5 and 6 and others");
         let stated = stated.map(|(total, vessels)| (total, vessels.to_vec()));
         report.same(&found, &stated, || name.to_string());
     }

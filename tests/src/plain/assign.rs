@@ -1,5 +1,5 @@
-//! Crews onto vessels (02, P5). The least total is found by shortest augmenting paths with potentials, one path for each crew. The assignment
-//! shown is found by fixing crew by crew the lowest vessel that keeps the least total.
+//! Crews onto vessels (02, P5). The least total is found by shortest augmenting paths with potentials, one path for each crew. The
+//! assignment shown is found by fixing crew by crew the lowest vessel that keeps the least total.
 
 use std::ops::Range;
 
@@ -13,8 +13,8 @@ struct Rest<'a> {
     vessels: Vec<usize>,
 }
 
-/// A matching of some crews, and potentials: no open pairing costs less than its crew's and its vessel's potential together, and a matched one
-/// costs just that. Crews and vessels are counted within the rest.
+/// A matching of some crews, and potentials: no open pairing of these crews costs less than its crew's and its vessel's potential together,
+/// and a matched one costs just that. Crews and vessels are counted within the rest.
 struct Matching {
     of_crew: Vec<i64>,
     of_vessel: Vec<i64>,
