@@ -61,20 +61,19 @@ fn wide_cases() -> Vec<Case> {
         case("two crews, the last two of 16 vessels", last_two, 2, &[15, 16]),
         case("two crews, three vessels, a tie", table(&[[2, 2, 2], [2, 2, 2]]), 4, &[1, 2]),
         case("a vessel left to the other crew", table(&[[1, 2, 9], [1, 9, 9]]), 3, &[2, 1]),
-        case("a dear vessel for crew 1 in the first of two", table(&[[4, 1, 2], [1, 1, 4]]), 2, &[2, 1]),
+        case("each crew on its cheapest vessel", table(&[[4, 1, 2], [1, 1, 4]]), 2, &[2, 1]),
     ]
 }
 
 fn none_cases() -> Vec<Case> {
     let case = |name, table| Case { name, table, stated: None };
-    let two_on_one = Table::new(16, 16, |crew, vessel| (crew == vessel || (crew, vessel) == (15, 14)) as u32);
-    let without_the_last = two_on_one.with(16 * 15 + 15, 0);
+    let last_two_on_one = Table::new(16, 16, |crew, vessel| (vessel == crew.min(14)) as u32);
     vec![
         case("one closed pairing", table(&[[0]])),
         case("two crews on one vessel", table(&[[5, 0], [6, 0]])),
         case("a crew without an open pairing", table(&[[1, 1, 1], [0, 0, 0]])),
         case("three crews on two vessels", table(&[[1, 2, 0, 0], [3, 0, 0, 0], [0, 4, 0, 0]])),
-        case("16 crews on 15 vessels", without_the_last),
+        case("16 crews on 15 vessels", last_two_on_one),
         case("nothing open", Table::new(16, 16, |_, _| 0)),
     ]
 }
