@@ -1,8 +1,8 @@
 /*
- * Crew plans from a duty file: the C interface of the engine.
+ * Crew plans from a duty file, and crews onto vessels: the C interface of the engine.
  *
  * Link with target/staticlib/libspp.a, which `rt staticlib spp` builds. Call the functions at the end of this file, spp_read to
- * spp_longest. They refuse lists of which any two overlap, two that are only read among them, and null pointers, before the engine is
+ * spp_assign. They refuse lists of which any two overlap, two that are only read among them, and null pointers, before the engine is
  * entered; the functions spp_core_.. are the engine itself, which takes for granted that no two lists overlap and that no pointer is
  * null.
  *
@@ -27,27 +27,36 @@ extern "C" {
 #define SPP_MOST_COST 1000000
 #define SPP_MOST_NODES 1000000
 
-/* Values of `refusal`. */
-#define SPP_ACCEPTED 0       /* the call was carried out */
-#define SPP_BAD_MARK 1       /* the file has under 8 bytes, or does not begin with SPP1 */
-#define SPP_BAD_SIZE 2       /* number of rows or columns out of range */
-#define SPP_CUT_CONTENTS 3   /* the file ends inside the contents */
-#define SPP_BAD_COST 4       /* a cost is out of range */
-#define SPP_BAD_LENGTH 5     /* a body length is out of range */
-#define SPP_MANY_ENTRIES 6   /* the body lengths sum to more than 4,096 */
-#define SPP_BAD_START 7      /* a body does not start where the former ends */
-#define SPP_BAD_END 8        /* the file does not end with the last body */
-#define SPP_BAD_ROW 9        /* a row number is out of range, or a body does not rise */
-#define SPP_SHORT_LIST 10    /* a list or buffer lent for the answer is too short */
-#define SPP_BAD_LIMIT 11     /* the node limit is out of range */
-#define SPP_BAD_COLUMN 12    /* an offered column is out of range, or the offered list does not rise */
-#define SPP_UNEQUAL_LISTS 13 /* the writer's lists disagree in length */
-#define SPP_BAD_AGREED 14    /* an agreed column is out of range, or the agreed list does not rise */
-#define SPP_BAD_ABSENT 15    /* an absent column is out of range, or the absent list does not rise */
-#define SPP_OVERLAP 100      /* two lent lists overlap, or a list reaches beyond the address space */
-#define SPP_NULL 101         /* a null pointer was lent with a number of places above 0, or for a struct */
+/* Largest values in an accepted table; its costs are at most SPP_MOST_COST. */
+#define SPP_MOST_CREWS 16
+#define SPP_MOST_VESSELS 16
 
-/* Values of `outcome`; 0 with a refusal. Plans are those that hold every agreed column and no absent one (struct spp_lists). */
+/* Values of `refusal`. */
+#define SPP_ACCEPTED 0        /* the call was carried out */
+#define SPP_BAD_MARK 1        /* the file has under 8 bytes, or does not begin with SPP1 */
+#define SPP_BAD_SIZE 2        /* number of rows or columns out of range */
+#define SPP_CUT_CONTENTS 3    /* the file ends inside the contents */
+#define SPP_BAD_COST 4        /* a cost is out of range */
+#define SPP_BAD_LENGTH 5      /* a body length is out of range */
+#define SPP_MANY_ENTRIES 6    /* the body lengths sum to more than 4,096 */
+#define SPP_BAD_START 7       /* a body does not start where the former ends */
+#define SPP_BAD_END 8         /* the file does not end with the last body */
+#define SPP_BAD_ROW 9         /* a row number is out of range, or a body does not rise */
+#define SPP_SHORT_LIST 10     /* a list or buffer lent for the answer is too short */
+#define SPP_BAD_LIMIT 11      /* the node limit is out of range */
+#define SPP_BAD_COLUMN 12     /* an offered column is out of range, or the offered list does not rise */
+#define SPP_UNEQUAL_LISTS 13  /* the writer's lists disagree in length */
+#define SPP_BAD_AGREED 14     /* an agreed column is out of range, or the agreed list does not rise */
+#define SPP_BAD_ABSENT 15     /* an absent column is out of range, or the absent list does not rise */
+#define SPP_BAD_TABLE 16      /* the table has no crews, above 16 crews or vessels, or more crews than vessels */
+#define SPP_BAD_TABLE_COST 17 /* a cost in the table is above 1,000,000 */
+#define SPP_OVERLAP 100       /* two lent lists overlap, or a list reaches beyond the address space */
+#define SPP_NULL 101          /* a null pointer was lent with a number of places above 0, or for a struct or a table */
+
+/*
+ * Values of `outcome`; 0 with a refusal. Plans are those that hold every agreed column and no absent one (struct spp_lists). For
+ * spp_assign read assignment for plan and total for price.
+ */
 #define SPP_BEST 1    /* no plan has a lower price than the one shown */
 #define SPP_NONE 2    /* there is no plan */
 #define SPP_STOPPED 3 /* the node limit was reached */
@@ -110,6 +119,16 @@ struct spp_answer {
     uint64_t bound;    /* with best and stopped: the root's lower bound (root floor); no plan has a lower price */
 };
 
+/*
+ * What an assignment of crews to vessels answers. An assignment gives each crew one vessel over an open pairing, and no vessel two
+ * crews; its total is the sum of the costs of these pairings.
+ */
+struct spp_assigned {
+    uint32_t refusal; /* 0, or why nothing was assigned */
+    uint32_t outcome; /* SPP_BEST or SPP_NONE */
+    uint64_t total;   /* with best: the total of the assignment shown */
+};
+
 /* The engine. No two lists of a call may overlap and no pointer may be null, not even for an empty list. */
 struct spp_shape spp_core_read(const uint8_t *file, size_t file_count, uint32_t *costs, size_t cost_count,
                                uint16_t *lengths, size_t length_count, uint8_t *rows, size_t row_count);
@@ -125,6 +144,8 @@ struct spp_answer spp_core_search(const uint8_t *file, size_t file_count, uint32
 struct spp_answer spp_core_longest(const uint8_t *file, size_t file_count, uint32_t node_limit, const uint16_t *agreed,
                                    size_t agreed_count, const uint16_t *absent, size_t absent_count, uint16_t *plan,
                                    size_t plan_count);
+struct spp_assigned spp_core_assign(size_t crews, size_t vessels, const uint32_t *table, uint8_t *answer,
+                                    size_t answer_count);
 
 /* One of the engine's two searches. */
 typedef struct spp_answer (*spp_core_call)(const uint8_t *file, size_t file_count, uint32_t node_limit,
@@ -306,6 +327,27 @@ static inline struct spp_answer spp_longest(const uint8_t *file, size_t file_cou
                                             size_t plan_count) {
     const struct spp_lists none = {NULL, 0, NULL, 0};
     return spp_longest_with(file, file_count, node_limit, &none, plan, plan_count);
+}
+
+/*
+ * Assigns crews to vessels at the least total: fills in the vessel of each crew, crew by crew, counted from 1. Of assignments with the
+ * same total the one whose vessels, read crew by crew, come first is shown; with SPP_NONE the answer list is not touched.
+ *
+ * The table has 256 places, 16 for each crew: table[16 * i + j] is the cost of crew i on vessel j, both counted from 0. It is 1 to
+ * 1,000,000, or 0 for a closed pairing. Places outside the crews and vessels given may hold anything. There are 1 to 16 crews and at
+ * most 16 vessels, and no more crews than vessels; the answer list must hold as many places as there are crews.
+ */
+static inline struct spp_assigned spp_assign(size_t crews, size_t vessels, const uint32_t *table, uint8_t *answer,
+                                             size_t answer_count) {
+    const struct spp_list lists[2] = {{table, SPP_MOST_CREWS * SPP_MOST_VESSELS, sizeof *table},
+                                      {answer, answer_count, sizeof *answer}};
+    struct spp_assigned refused = {0, 0, 0};
+    uint8_t no_vessel = 0;
+    refused.refusal = spp_guard(lists, 2);
+    if (refused.refusal) {
+        return refused;
+    }
+    return spp_core_assign(crews, vessels, table, answer ? answer : &no_vessel, answer_count);
 }
 
 #endif

@@ -1,7 +1,7 @@
 /*
  * The guards of include/spp.h: lists that overlap and null pointers are refused before the engine is entered, and nothing is touched.
  * Each case lends every call's lists at chosen places of one block of memory. The struct of the searches with lists stands in the block
- * too, as the last list of the call, with one place.
+ * too, as the last list of the call, with one place. It and the table of crews against vessels are lent without a count.
  */
 #include <stdio.h>
 #include <string.h>
@@ -9,16 +9,18 @@
 #include "spp.h"
 
 #define BLOCK 8000
-#define APART 1000 /* bytes between the lists' first places */
+#define APART 1040 /* bytes between the lists' first places */
 #define MOST_LISTS 5
 #define STRUCT 4 /* the place of the struct among the lists of a search with lists */
+#define TABLE 0  /* the place of the table among the lists of spp_assign */
+#define PLACES (SPP_MOST_CREWS * SPP_MOST_VESSELS)
 
-enum call { READ, WRITE, CHECK, REDUCE, SEARCH, LONGEST, SEARCH_WITH, LONGEST_WITH };
-static const char *const call_names[] = {"spp_read",   "spp_write",   "spp_check",       "spp_reduce",
-                                         "spp_search", "spp_longest", "spp_search_with", "spp_longest_with"};
+enum call { READ, WRITE, CHECK, REDUCE, SEARCH, LONGEST, SEARCH_WITH, LONGEST_WITH, ASSIGN };
+static const char *const call_names[] = {"spp_read",    "spp_write",       "spp_check",        "spp_reduce", "spp_search",
+                                         "spp_longest", "spp_search_with", "spp_longest_with", "spp_assign"};
 
 /* The lists of each call: how many, and the bytes of one place. */
-static const size_t list_counts[] = {4, 4, 2, 3, 2, 2, 5, 5};
+static const size_t list_counts[] = {4, 4, 2, 3, 2, 2, 5, 5, 2};
 static const size_t place_sizes[][MOST_LISTS] = {{1, 4, 2, 1, 0},
                                                  {4, 2, 1, 1, 0},
                                                  {1, 2, 0, 0, 0},
@@ -26,7 +28,8 @@ static const size_t place_sizes[][MOST_LISTS] = {{1, 4, 2, 1, 0},
                                                  {1, 2, 0, 0, 0},
                                                  {1, 2, 0, 0, 0},
                                                  {1, 2, 2, 2, sizeof(struct spp_lists)},
-                                                 {1, 2, 2, 2, sizeof(struct spp_lists)}};
+                                                 {1, 2, 2, 2, sizeof(struct spp_lists)},
+                                                 {4, 1, 0, 0, 0}};
 
 /* Example 1 of the paper, which is example 7 too: 5 rows, 8 columns, 13 entries. */
 static const uint32_t costs[8] = {3, 7, 5, 8, 10, 4, 6, 9};
@@ -36,6 +39,12 @@ static const uint16_t plan[3] = {1, 4, 7}, longest_plan[3] = {2, 3, 7};
 /* With these lists the plan 2 3 7 is forced. */
 static const uint16_t agreed[1] = {2}, absent[1] = {8};
 static uint8_t file[85];
+
+/* Example 5 of the paper: 5 crews, 5 vessels. */
+static const uint32_t example_5[5][5] = {
+    {7, 3, 5, 7, 10}, {6, 0, 0, 8, 7}, {6, 5, 1, 5, 0}, {11, 4, 0, 11, 15}, {0, 4, 5, 2, 10}};
+static uint32_t table[PLACES];
+static const uint8_t vessels[5] = {1, 5, 3, 2, 4};
 
 /* The block is aligned for every list. */
 static union {
@@ -56,6 +65,15 @@ static void holds(int condition, enum call call, const char *what) {
     if (!condition) {
         differences++;
         printf("DIFFERENCE: %s, %s\n", call_names[call], what);
+    }
+}
+
+/* Puts example 5 into the table, and outside its crews and vessels a cost that is out of range. */
+static void fill_table(void) {
+    size_t i;
+    for (i = 0; i < PLACES; i++) {
+        size_t crew = i / SPP_MOST_VESSELS, vessel = i % SPP_MOST_VESSELS;
+        table[i] = crew < 5 && vessel < 5 ? example_5[crew][vessel] : UINT32_MAX;
     }
 }
 
@@ -80,6 +98,8 @@ static uint32_t refusal_of(enum call call, const struct lent *l) {
         return spp_search((uint8_t *)l[0].start, l[0].count, 1000, (uint16_t *)l[1].start, l[1].count).refusal;
     case LONGEST:
         return spp_longest((uint8_t *)l[0].start, l[0].count, 1000, (uint16_t *)l[1].start, l[1].count).refusal;
+    case ASSIGN:
+        return spp_assign(5, 5, (uint32_t *)l[TABLE].start, (uint8_t *)l[1].start, l[1].count).refusal;
     default:
         return (call == SEARCH_WITH ? spp_search_with : spp_longest_with)((uint8_t *)l[0].start, l[0].count, 1000,
                                                                           (struct spp_lists *)l[STRUCT].start,
@@ -105,6 +125,11 @@ static int has_struct(enum call call) {
     return list_counts[call] > STRUCT;
 }
 
+/* The place of the list that is lent without a count, the struct or the table; MOST_LISTS for none. */
+static size_t uncounted(enum call call) {
+    return call == ASSIGN ? TABLE : has_struct(call) ? STRUCT : MOST_LISTS;
+}
+
 /* Puts the agreed and absent lists that are lent into the struct that is lent. */
 static void put_struct(enum call call, const struct lent *l) {
     if (has_struct(call) && l[STRUCT].start) {
@@ -115,8 +140,9 @@ static void put_struct(enum call call, const struct lent *l) {
 
 /* Fills the block with a pattern and lends each list at a place of its own, with what an accepted call needs. */
 static void lend(enum call call, struct lent *l) {
-    static const size_t counts[][MOST_LISTS] = {{85, 8, 8, 13, 0}, {8, 8, 13, 85, 0}, {85, 3, 0, 0, 0}, {85, 8, 5, 0, 0},
-                                                {85, 5, 0, 0, 0},  {85, 5, 0, 0, 0},  {85, 1, 1, 5, 1}, {85, 1, 1, 5, 1}};
+    static const size_t counts[][MOST_LISTS] = {{85, 8, 8, 13, 0}, {8, 8, 13, 85, 0}, {85, 3, 0, 0, 0},
+                                                {85, 8, 5, 0, 0},  {85, 5, 0, 0, 0},  {85, 5, 0, 0, 0},
+                                                {85, 1, 1, 5, 1},  {85, 1, 1, 5, 1},  {PLACES, 8, 0, 0, 0}};
     size_t i;
     for (i = 0; i < BLOCK; i++) {
         block.bytes[i] = (uint8_t)(i * 5 + 77);
@@ -129,6 +155,8 @@ static void lend(enum call call, struct lent *l) {
         memcpy(l[0].start, costs, sizeof costs);
         memcpy(l[1].start, lengths, sizeof lengths);
         memcpy(l[2].start, rows, sizeof rows);
+    } else if (call == ASSIGN) {
+        memcpy(l[TABLE].start, table, sizeof table);
     } else {
         memcpy(l[0].start, file, sizeof file);
     }
@@ -180,7 +208,7 @@ static void pairs(enum call call) {
             }
             move(call, l, i, j, bytes);
             enters(call, l, "two lists side by side");
-            if (j == STRUCT) {
+            if (j == uncounted(call)) {
                 continue;
             }
             lend(call, l);
@@ -193,28 +221,38 @@ static void pairs(enum call call) {
     }
 }
 
-/* A null pointer for the struct, with lists and with none. */
-static void null_struct(enum call call) {
-    struct lent l[MOST_LISTS];
+/* Makes all lists null and empty but for the one that is lent without a count. */
+static void make_empty(enum call call, struct lent *l) {
     size_t i;
-    lend(call, l);
-    l[STRUCT].start = NULL;
-    refuses(call, l, SPP_NULL, "a null pointer for the struct");
-    for (i = 0; i < STRUCT; i++) {
-        l[i].start = NULL;
-        l[i].count = 0;
+    for (i = 0; i < list_counts[call]; i++) {
+        if (i != uncounted(call)) {
+            l[i].start = NULL;
+            l[i].count = 0;
+        }
     }
-    refuses(call, l, SPP_NULL, "a null pointer for the struct, and all lists null and empty");
 }
 
-/* Null pointers, with and without a count, and counts beyond the address space. The struct has no count. */
+/* A null pointer for the list that is lent without a count, with other lists and with none. */
+static void null_uncounted(enum call call) {
+    struct lent l[MOST_LISTS];
+    lend(call, l);
+    l[uncounted(call)].start = NULL;
+    refuses(call, l, SPP_NULL, "a null pointer for the struct or the table");
+    make_empty(call, l);
+    refuses(call, l, SPP_NULL, "a null pointer for the struct or the table, and all lists null and empty");
+}
+
+/* Null pointers, with and without a count, and counts beyond the address space. */
 static void nulls(enum call call) {
     struct lent l[MOST_LISTS];
-    size_t counted = has_struct(call) ? STRUCT : list_counts[call], i, j;
-    if (has_struct(call)) {
-        null_struct(call);
+    size_t i;
+    if (uncounted(call) < MOST_LISTS) {
+        null_uncounted(call);
     }
-    for (i = 0; i < counted; i++) {
+    for (i = 0; i < list_counts[call]; i++) {
+        if (i == uncounted(call)) {
+            continue;
+        }
         lend(call, l);
         l[i].start = NULL;
         refuses(call, l, SPP_NULL, "a null pointer with a count");
@@ -235,10 +273,7 @@ static void nulls(enum call call) {
             l[i].count = APART / place_sizes[call][i];
             enters(call, l, "a list that ends where the next one starts");
         }
-        for (j = 0; j < counted; j++) {
-            l[j].start = NULL;
-            l[j].count = 0;
-        }
+        make_empty(call, l);
         enters(call, l, "all lists null and empty");
     }
 }
@@ -279,6 +314,74 @@ static void accepted_lists(enum call call, uint64_t price) {
     holds(search(file, 85, 1000, &lists, found, 5).refusal == SPP_BAD_ABSENT, call, "an absent list that does not rise");
 }
 
+/* An answer list at an offset from the table's first byte, and the refusal, 0 for none. */
+static const struct {
+    ptrdiff_t offset;
+    size_t count;
+    uint32_t refusal;
+    const char *what;
+} answer_places[] = {
+    {-8, 8, SPP_ACCEPTED, "an answer list that ends where the table starts"},
+    {-7, 8, SPP_OVERLAP, "an answer list that ends with the table's first byte"},
+    {-1, 8, SPP_OVERLAP, "an answer list that starts a byte before the table"},
+    {0, 1, SPP_OVERLAP, "an answer list of the table's first byte"},
+    {512, 8, SPP_OVERLAP, "an answer list inside the table"},
+    {1023, 1, SPP_OVERLAP, "an answer list of the table's last byte"},
+    {1023, 8, SPP_OVERLAP, "an answer list that starts with the table's last byte"},
+    {1024, 8, SPP_ACCEPTED, "an answer list that starts where the table ends"},
+    {0, 0, SPP_SHORT_LIST, "an empty answer list at the table's first byte"},
+    {512, 0, SPP_SHORT_LIST, "an empty answer list inside the table"},
+    {1024, 0, SPP_SHORT_LIST, "an empty answer list where the table ends"},
+};
+
+/* Answer lists that share bytes with the table, and others beside it and empty. What is accepted fills in 5 places and no more. */
+static void answers_about_table(void) {
+    struct lent l[MOST_LISTS];
+    size_t i;
+    for (i = 0; i < sizeof answer_places / sizeof *answer_places; i++) {
+        lend(ASSIGN, l);
+        l[1].start = (uint8_t *)l[TABLE].start + answer_places[i].offset;
+        l[1].count = answer_places[i].count;
+        if (answer_places[i].refusal) {
+            refuses(ASSIGN, l, answer_places[i].refusal, answer_places[i].what);
+            continue;
+        }
+        before = block;
+        memcpy(before.bytes + ((uint8_t *)l[1].start - block.bytes), vessels, sizeof vessels);
+        holds(refusal_of(ASSIGN, l) == SPP_ACCEPTED, ASSIGN, answer_places[i].what);
+        holds(memcmp(&before, &block, sizeof block) == 0, ASSIGN, "the vessels filled in, and all else as it was");
+    }
+}
+
+/* The stated answer of spp_assign, and the same from the engine. */
+static void assigns(size_t crews, size_t count, const uint32_t *costs_of, size_t room, struct spp_assigned wanted,
+                    const char *what) {
+    uint8_t found[16], core_found[16];
+    struct spp_assigned a = spp_assign(crews, count, costs_of, found, room);
+    struct spp_assigned b = spp_core_assign(crews, count, costs_of, core_found, room);
+    holds(a.refusal == wanted.refusal && a.outcome == wanted.outcome && a.total == wanted.total, ASSIGN, what);
+    holds(b.refusal == wanted.refusal && b.outcome == wanted.outcome && b.total == wanted.total, ASSIGN, what);
+}
+
+/* Answers of spp_assign that have a number of their own in each field of the struct. */
+static void accepted_assign(void) {
+    const struct spp_assigned best = {SPP_ACCEPTED, SPP_BEST, 21}, dearest = {SPP_ACCEPTED, SPP_BEST, 16000000};
+    const struct spp_assigned none = {SPP_ACCEPTED, SPP_NONE, 0}, bad_table = {SPP_BAD_TABLE, 0, 0};
+    const struct spp_assigned bad_cost = {SPP_BAD_TABLE_COST, 0, 0}, short_list = {SPP_SHORT_LIST, 0, 0};
+    uint32_t other[PLACES];
+    size_t i;
+    assigns(5, 5, table, 5, best, "example 5");
+    assigns(6, 5, table, 4, bad_table, "more crews than vessels");
+    assigns(5, 6, table, 4, bad_cost, "a cost out of range");
+    assigns(5, 5, table, 4, short_list, "a short answer list");
+    for (i = 0; i < PLACES; i++) {
+        other[i] = SPP_MOST_COST;
+    }
+    assigns(16, 16, other, 16, dearest, "16 by 16 at the largest cost");
+    memset(other, 0, sizeof other);
+    assigns(16, 16, other, 16, none, "no open pairing");
+}
+
 /* Accepted calls through the header: stated values. */
 static void accepted(void) {
     uint32_t read_costs[8], reduced[8];
@@ -298,17 +401,20 @@ static void accepted(void) {
     accepted_search(LONGEST, longest_plan, 7, 6);
     accepted_lists(SEARCH_WITH, 18);
     accepted_lists(LONGEST_WITH, 7);
+    accepted_assign();
 }
 
 int main(void) {
     int call;
     struct spp_written written = spp_write(5, costs, 8, lengths, 8, rows, 13, file, sizeof file);
     holds(written.refusal == 0 && written.length == sizeof file, WRITE, "example 1");
+    fill_table();
     accepted();
-    for (call = READ; call <= LONGEST_WITH; call++) {
+    for (call = READ; call <= ASSIGN; call++) {
         pairs((enum call)call);
         nulls((enum call)call);
     }
+    answers_about_table();
     printf("%9lu  cases of the header's guards compared, %lu differences\n", cases, differences);
     return differences != 0;
 }

@@ -6,6 +6,9 @@ typedef struct spp_answer (*search)(const uint8_t *, size_t, uint32_t, uint16_t 
 const search spp_header_searches[2] = {spp_search, spp_longest};
 typedef struct spp_answer (*search_with)(const uint8_t *, size_t, uint32_t, const struct spp_lists *, uint16_t *, size_t);
 const search_with spp_header_searches_with[2] = {spp_search_with, spp_longest_with};
+/* The engine's call and the guarded one are called alike. */
+typedef struct spp_assigned (*assign)(size_t, size_t, const uint32_t *, uint8_t *, size_t);
+const assign spp_header_assigns[2] = {spp_assign, spp_core_assign};
 
 /* The layout of struct spp_lists, as a type that is in error if it differs: four fields without a gap. */
 #define WORDS_BEFORE(field) (offsetof(struct spp_lists, field) / sizeof(size_t))
@@ -14,6 +17,13 @@ typedef char spp_header_lists_layout[WORDS_BEFORE(agreed) == 0 && WORDS_BEFORE(a
                                              sizeof(struct spp_lists) == 4 * sizeof(size_t)
                                          ? 1
                                          : -1];
+
+/* The layout of struct spp_assigned, in the same way: 4, 4 and 8 bytes without a gap. */
+#define BYTES_BEFORE(field) offsetof(struct spp_assigned, field)
+typedef char spp_header_assigned_layout[BYTES_BEFORE(refusal) == 0 && BYTES_BEFORE(outcome) == 4 &&
+                                                BYTES_BEFORE(total) == 8 && sizeof(struct spp_assigned) == 16
+                                            ? 1
+                                            : -1];
 
 int spp_header_compiles(void) {
     return SPP_ACCEPTED;

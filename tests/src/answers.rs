@@ -1,6 +1,6 @@
 //! The answers of the calls, as in include/spp.h. Fields that a case does not use are 0.
 
-/// Values of `Answer::outcome`.
+/// Values of `Answer::outcome` and, but for `STOPPED`, of `Assigned::outcome`.
 pub const BEST: u32 = 1;
 pub const NONE: u32 = 2;
 pub const STOPPED: u32 = 3;
@@ -54,4 +54,13 @@ pub struct Answer {
     pub nodes: u32,
     pub price: u64,
     pub bound: u64,
+}
+
+/// What an assignment of crews to vessels answers.
+#[repr(C)]
+#[derive(Clone, Copy, Debug, Default, PartialEq, Eq)]
+pub struct Assigned {
+    pub refusal: u32,
+    pub outcome: u32,
+    pub total: u64,
 }

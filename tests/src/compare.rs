@@ -3,9 +3,10 @@
 
 use std::hint::black_box;
 
-use spp_tests::answers::{Answer, Checked, Reduced, Shape, Written};
+use spp_tests::answers::{Answer, Assigned, Checked, Reduced, Shape, Written};
 use spp_tests::goal::Goal;
 use spp_tests::requests::Requests;
+use spp_tests::table::{Costs, Table};
 use spp_tests::{engine, plain};
 
 use crate::report::{hex, Report};
@@ -138,6 +139,27 @@ pub fn search_with(
     });
     let shown = (found.0.columns as usize).min(room);
     (found.0, found.1.list()[..shown].to_vec())
+}
+
+/// An answer list: no place holds the number of a vessel.
+fn no_vessels(count: usize) -> Lent<u8> {
+    Lent::new(count, |place| (place % 239) as u8 + 17)
+}
+
+type AssignCall = fn(usize, usize, &Costs, &mut [u8]) -> Assigned;
+
+/// The answer, and its lists after the call: the vessels and the table.
+type Assignment = (Assigned, Lent<u8>, Lent<u32>);
+
+pub fn assign(report: &mut Report, table: &Table, room: usize) -> (Assigned, Lent<u8>) {
+    let run = |call: AssignCall| -> Assignment {
+        let (mut answer, costs) = (no_vessels(room), words(table.costs.len()).holding(&table.costs));
+        let lent = costs.list().try_into().expect("the list has a place for each cost");
+        (call(table.crews, table.vessels, lent, answer.list_mut()), answer, black_box(costs))
+    };
+    let found = run(engine::assign);
+    report.same(&found, &run(plain::assign), || format!("crews onto vessels, room {room}, {}", table.text()));
+    (found.0, found.1)
 }
 
 /// All calls that take a file, with room for any file.

@@ -1,8 +1,9 @@
 //! The static library's calls on slices. Slices are never null and a `&mut` slice overlaps no other, which is what the library asks.
 
-use crate::answers::{Answer, Checked, Reduced, Shape, Written};
+use crate::answers::{Answer, Assigned, Checked, Reduced, Shape, Written};
 use crate::goal::Goal;
 use crate::requests::Requests;
+use crate::table::Costs;
 
 extern "C" {
     fn spp_core_read(
@@ -57,6 +58,7 @@ extern "C" {
         plan: *mut u16,
         plan_count: usize,
     ) -> Answer;
+    fn spp_core_assign(crews: usize, vessels: usize, table: *const u32, answer: *mut u8, answer_count: usize) -> Assigned;
 }
 
 pub fn read(file: &[u8], costs: &mut [u32], lengths: &mut [u16], numbers: &mut [u8]) -> Shape {
@@ -122,4 +124,8 @@ pub fn search_with(goal: Goal, file: &[u8], limit: u32, requests: Requests, plan
             plan.len(),
         )
     }
+}
+
+pub fn assign(crews: usize, vessels: usize, costs: &Costs, answer: &mut [u8]) -> Assigned {
+    unsafe { spp_core_assign(crews, vessels, costs.as_ptr(), answer.as_mut_ptr(), answer.len()) }
 }

@@ -1,5 +1,9 @@
 //! The groups of cases.
 
+pub mod assign_case;
+pub mod assign_faults;
+pub mod assign_generated;
+pub mod assign_worked;
 pub mod case;
 pub mod damaged;
 pub mod deep;

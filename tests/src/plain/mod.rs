@@ -1,5 +1,6 @@
-//! The rules of 01 and of 02, P1 and P2 in plain code: the same calls as the static library, on slices.
+//! The rules of 01 and of 02, P1, P2 and P5 in plain code: the same calls as the static library, on slices.
 
+mod assign;
 mod file;
 mod goal;
 mod matrix;
@@ -8,6 +9,7 @@ mod reduce;
 mod requests;
 mod search;
 
+pub use assign::assign;
 pub use file::{check, read, write};
 pub use reduce::reduce;
 pub use search::{search, search_with, tree, Tree};

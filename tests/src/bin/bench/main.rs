@@ -2,6 +2,7 @@
 //!
 //! `bench solve FILE` is the engine as a process of its own, for the comparison with other solvers.
 
+mod assign;
 mod calls;
 mod growth;
 mod measure;
@@ -53,4 +54,5 @@ fn main() {
     calls::table();
     growth::table();
     stack::table();
+    assign::table();
 }

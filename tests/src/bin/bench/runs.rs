@@ -27,6 +27,10 @@ impl Runs {
         self.below(0.5)
     }
 
+    pub fn largest(&self) -> f64 {
+        self.below(1.0)
+    }
+
     /// Each run's figure times a factor.
     pub fn times(&self, factor: f64) -> Runs {
         Runs(self.0.iter().map(|figure| figure * factor).collect())

@@ -1,4 +1,5 @@
-//! How much stack the searches need on the file with the longest path: they run on a thread whose stack was filled with a pattern.
+//! How much stack a call needs: it runs on a thread whose stack was filled with a pattern. The table is of the searches on the file with the
+//! longest path.
 
 use std::alloc::{alloc, dealloc, Layout};
 use std::ffi::c_void;
@@ -8,7 +9,7 @@ use spp_tests::goal::Goal;
 use spp_tests::{engine, plain};
 
 const SIZE: usize = 64 << 20;
-const REPEATS: usize = 3;
+pub const REPEATS: usize = 3;
 const LIMIT: u32 = 1_000_000;
 const PATTERN: u64 = 0xA5C3_96F0_1E2D_4B87;
 
@@ -48,8 +49,8 @@ extern "C" fn search_by_plain(task: *mut c_void) -> *mut c_void {
     std::ptr::null_mut()
 }
 
-/// Bytes of stack that were written to by a thread with this start.
-fn used(start: Start, task: &Task) -> usize {
+/// Bytes of stack that were written to by a thread with this start, which is given the task.
+fn used<T>(start: Start, task: &T) -> usize {
     let layout = Layout::from_size_align(SIZE, 4096).expect("a layout in range");
     unsafe {
         let stack = alloc(layout) as *mut u64;
@@ -59,7 +60,7 @@ fn used(start: Start, task: &Task) -> usize {
         let (mut attributes, mut thread) = (Attributes([0; 16]), 0);
         let mut failed = pthread_attr_init(&mut attributes);
         failed |= pthread_attr_setstack(&mut attributes, stack as *mut c_void, SIZE);
-        failed |= pthread_create(&mut thread, &attributes, start, task as *const Task as *mut c_void);
+        failed |= pthread_create(&mut thread, &attributes, start, task as *const T as *mut c_void);
         assert!(failed == 0, "no thread on a stack of its own");
         pthread_join(thread, std::ptr::null_mut());
         pthread_attr_destroy(&mut attributes);
@@ -70,7 +71,7 @@ fn used(start: Start, task: &Task) -> usize {
 }
 
 /// The most stack of some runs beyond what an idle thread uses, and how far the runs differ.
-fn most_used(start: Start, task: &Task) -> (usize, usize) {
+pub fn most_used<T>(start: Start, task: &T) -> (usize, usize) {
     let runs = [0; REPEATS].map(|_| used(start, task) - used(nothing, task));
     let (least, most) = (runs.into_iter().min().unwrap_or(0), runs.into_iter().max().unwrap_or(0));
     (most, most - least)
