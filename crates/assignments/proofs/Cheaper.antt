@@ -16,11 +16,11 @@ cheaper-nothing (found x xs) = refl
 
 former : (x y : ℕ) (xs ys : List ℕ) → x ≤ y → cheaper (found x xs) (found y ys) ≡ found x xs
 unfolding cheaper
-former x y xs ys h = rw (le-leb x y h)
+former x y xs ys h = ap (λ b. cond b (found x xs) (found y ys)) (le-leb x y h)
 
 latter : (x y : ℕ) (xs ys : List ℕ) → y < x → cheaper (found x xs) (found y ys) ≡ found y ys
 unfolding cheaper
-latter x y xs ys h = rw (lt-leb x y h)
+latter x y xs ys h = ap (λ b. cond b (found x xs) (found y ys)) (lt-leb x y h)
 
 module _ (x y z : ℕ) (xs ys zs : List ℕ) where
   three : (p q : Bool) → leb x y ≡ p → leb y z ≡ q →

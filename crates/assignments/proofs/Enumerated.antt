@@ -1,14 +1,14 @@
 -- The answer by sets of used vessels is the cheapest of all assignments, and of equals the first.
 use mathlib.Core.Path.{_≡_, refl, sym, _∙_, ap}
-use mathlib.Core.Bool.{Bool, true, false, cond, not}
+use mathlib.Core.Bool.{Bool, true, false, cond, not, _||_}
 use mathlib.Core.List.{List, [], _∷_, _++_, map}
 use Prim.Native.Nat.{ℕ, zero, suc, _+_, _*_, _^_, _≤_, _<_}
 use native.Mathlib.Omega.{arith}
 use lib.Dec.{eqb, ltb}
-use borrow.Author.Tests.{eqb-true, eqb-false, eq-eqb, ne-eqb, ltb-true, ltb-false}
+use borrow.Author.Tests.{eqb-true, eqb-false, ltb-true, ltb-false}
 use Rattle.assignments.specs.declared.Pick.{Pick}
 use Rattle.assignments.specs.Assignment.{cost}
-use Rattle.assignments.specs.Cheapest.{joined, with-one, assignments, totalOf, Found, nothing, found, cheaper, cheapest, best}
+use Rattle.assignments.specs.Cheapest.{joined, withOne, assignments, totalOf, Found, nothing, found, cheaper, cheapest, best}
 use Rattle.assignments.specs.Sets.{noTotal, has, offer, offers, lower, pickFrom, unpicked, pick, leastFrom, vessel, vesselsFrom, leastTotal, vessels, foundAt, Priced}
 use Rattle.assignments.proofs.Sets.{has-empty, has-added, has-other}
 use Rattle.assignments.proofs.Picks.{lower-less, lower-kept}
@@ -19,12 +19,12 @@ use Rattle.assignments.proofs.Cheaper.{cheaper-nothing, cheaper-assoc, 
 abbrev Held : (ℕ → Bool) → ℕ → Type 0
 Held used s = (j : ℕ) → used j ≡ not (eqb (has j s) 0)
 
-held-with : (used : ℕ → Bool) (s j : ℕ) → has j s ≡ 0 → Held used s → Held (with-one used j) (s + 2 ^ j)
+held-with : (used : ℕ → Bool) (s j : ℕ) → has j s ≡ 0 → Held used s → Held (withOne used j) (s + 2 ^ j)
 held-with used s j h w v = go (eqb v j) refl
   where
-    go : (q : Bool) → eqb v j ≡ q → with-one used j v ≡ not (eqb (has v (s + 2 ^ j)) 0)
-    go true q = rw (eqb-true v j q, eq-eqb j j refl, has-added j s h)
-    go false q = rw (q, has-other j v s h (eqb-false v j q)) (w v)
+    go : (q : Bool) → eqb v j ≡ q → withOne used j v ≡ not (eqb (has v (s + 2 ^ j)) 0)
+    go true q = ap (λ b. b || used v) q ∙ sym (ap (λ x. not (eqb x 0)) (ap (λ x. has x (s + 2 ^ j)) (eqb-true v j q) ∙ has-added j s h))
+    go false q = ap (λ b. b || used v) q ∙ w v ∙ sym (ap (λ x. not (eqb x 0)) (has-other j v s h (eqb-false v j q)))
 
 -- a pick of vessels, as what is found with it
 module _ (f : ℕ → ℕ) (rest : ℕ → List ℕ) where
@@ -72,14 +72,14 @@ module _ (t : List (List ℕ)) (m n : ℕ) (few : m ≤ 16) (priced : Priced t m
     tails j = vesselsFrom t n k (suc i) (s + 2 ^ j)
 
     abbrev block : ℕ → List (List ℕ)
-    block j = cond (used j) [] (cond (eqb (cost t i j) 0) [] (map (_∷_ j) (assignments t n k (suc i) (with-one used j))))
+    block j = cond (used j) [] (cond (eqb (cost t i j) 0) [] (map (_∷_ j) (assignments t n k (suc i) (withOne used j))))
 
     open-block : (j : ℕ) → j < n →
-        cheapest (totalOf t (suc i)) (assignments t n k (suc i) (with-one used j)) ≡ foundAt (rest (s + 2 ^ j)) (tails j) →
-        cheapest (totalOf t i) (map (_∷_ j) (assignments t n k (suc i) (with-one used j))) ≡ foundAt (cost t i j + rest (s + 2 ^ j)) (j ∷ tails j)
+        cheapest (totalOf t (suc i)) (assignments t n k (suc i) (withOne used j)) ≡ foundAt (rest (s + 2 ^ j)) (tails j) →
+        cheapest (totalOf t i) (map (_∷_ j) (assignments t n k (suc i) (withOne used j))) ≡ foundAt (cost t i j + rest (s + 2 ^ j)) (j ∷ tails j)
     unfolding totalOf given
     open-block j h e =
-        cheapest-given (totalOf t i) (totalOf t (suc i)) (cost t i j) j (λ xs. refl) (assignments t n k (suc i) (with-one used j))
+        cheapest-given (totalOf t i) (totalOf t (suc i)) (cost t i j) j (λ xs. refl) (assignments t n k (suc i) (withOne used j))
         ∙ ap (given (cost t i j) j) e
         ∙ go (ltb (rest (s + 2 ^ j)) noTotal) refl
       where
@@ -95,7 +95,7 @@ module _ (t : List (List ℕ)) (m n : ℕ) (few : m ≤ 16) (priced : Priced t m
             rw (found-high (rest (s + 2 ^ j)) (tails j) u) (sym (found-high (cost t i j + rest (s + 2 ^ j)) (j ∷ tails j) (omega (arith, u))))
 
     block-is : (j : ℕ) → j < n →
-        (has j s ≡ 0 → cheapest (totalOf t (suc i)) (assignments t n k (suc i) (with-one used j)) ≡ foundAt (rest (s + 2 ^ j)) (tails j)) →
+        (has j s ≡ 0 → cheapest (totalOf t (suc i)) (assignments t n k (suc i) (withOne used j)) ≡ foundAt (rest (s + 2 ^ j)) (tails j)) →
         cheapest (totalOf t i) (block j) ≡ foundAt (offers (cost t i) rest s j) (j ∷ tails j)
     unfolding cheapest offer
     block-is j h again = go (eqb (has j s) 0) (eqb (cost t i j) 0) refl refl
@@ -112,7 +112,7 @@ module _ (t : List (List ℕ)) (m n : ℕ) (few : m ≤ 16) (priced : Priced t m
   from-crew zero i s used l held = refl
   from-crew (suc k) i s used l held =
       found-picks (offers (cost t i) (rest k i s used l held) s) (tails k i s used l held) (totalOf t i) (block k i s used l held) n
-      (λ j h. block-is k i s used l held j h (λ u. from-crew k (suc i) (s + 2 ^ j) (with-one used j) (omega arith) (held-with used s j u held)))
+      (λ j h. block-is k i s used l held j h (λ u. from-crew k (suc i) (s + 2 ^ j) (withOne used j) (omega arith) (held-with used s j u held)))
       unpicked n 0 (omega arith)
 
 -- of all assignments the first of the cheapest is what the sets give

@@ -11,15 +11,15 @@ joined f zero j = []
 joined f (suc v) j = f j ++ joined f v (suc j)
 
 -- the used vessels, with one more
-abbrev pub with-one : (ℕ → Bool) → ℕ → ℕ → Bool
-with-one used j v = eqb v j || used v
+abbrev pub withOne : (ℕ → Bool) → ℕ → ℕ → Bool
+withOne used j v = eqb v j || used v
 
 -- every assignment of the k crews from crew i on over open pairings and vessels that are not used, as a list of vessels crew by crew; the
 -- lists rise, read crew by crew
 unfoldable pub assignments : List (List ℕ) → ℕ → ℕ → ℕ → (ℕ → Bool) → List (List ℕ)
 assignments t n zero i used = [] ∷ []
 assignments t n (suc k) i used =
-    joined (λ j. cond (used j) [] (cond (eqb (cost t i j) 0) [] (map (_∷_ j) (assignments t n k (suc i) (with-one used j))))) n 0
+    joined (λ j. cond (used j) [] (cond (eqb (cost t i j) 0) [] (map (_∷_ j) (assignments t n k (suc i) (withOne used j))))) n 0
 
 -- the total of such a list
 unfoldable pub totalOf : List (List ℕ) → ℕ → List ℕ → ℕ

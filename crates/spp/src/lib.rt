@@ -1,11 +1,11 @@
 // The engine for C: each exported function makes one call and gives its answer as a struct of numbers. A list is a pointer and a number of
 // places.
-use assigned::SppAssigned;
 use flat::SppAnswer;
 use flat::SppChecked;
 use flat::SppReduced;
 use flat::SppShape;
 use flat::SppWritten;
+use flat_assign::SppAssigned;
 ghost use mathlib.Core.Path.{_≡_};
 ghost use lib.ListN.{length};
 ghost use Rattle.refusals.specs.Refusals.{filled};
@@ -22,7 +22,7 @@ ghost use Rattle.reduce.specs.Answer.{reducing, reducedCosts, usedRows};
 ghost use Rattle.search.specs.Requests.{searchingWith, planListWith, longestSearchingWith, longestListWith};
 ghost use Rattle.assign.specs.Answer.{assigning, vesselList};
 ghost use Rattle.assign.specs.Assigned.{Assigned};
-ghost use Rattle.assigned.specs.Struct.{assignedOf, outcomeIn};
+ghost use Rattle.flat_assign.specs.Struct.{assignedOf, outcomeIn};
 ghost use Rattle.flat.specs.Flat.{shapeOf, writtenOf, checkedOf, reducedOf, answerOf, seenIn};
 
 // Reads a duty file: m, n and t, with the front of each list filled; or a refusal, with every list as it was.
@@ -131,5 +131,5 @@ pub extern "C" fn spp_core_assign(
     ensures { λ r. ⌜ Assigned (now (table .entry)) crews vessels (outcomeIn r) (now (answer .exit)) ⌝ }
 {
     let found = assign::assign(crews, vessels, *table, answer);
-    assigned::flat_assigned(found)
+    flat_assign::flat_assigned(found)
 }

@@ -1,5 +1,5 @@
 -- The assigning call's own clauses, with its outcome in place of its answer; the struct shows the same answer.
-use Rattle.assigned.proofs.Back.{back}
+use Rattle.flat_assign.proofs.Back.{back}
 use borrow.Author.Needs.{needs}
 use Rattle.spp.proofs.spp_core_assign.Statement.{statement}
 use Rattle.spp.proofs.spp_core_assign.Tie as tie

@@ -19,11 +19,13 @@ element-copy-out-after c = search needs
 
 returns : tie.Need-returns
 unfolding offer
-returns c = simp (offer, ne-eqb _ _ (c .if1 .taken))
+returns c = simp (offer, ne-eqb (c .before .before .args .rest % 2) 0 (c .if1 .taken))
 
 returns-2 : tie.Need-returns-2
 unfolding offer
-returns-2 c = simp (offer, eq-eqb _ _ (c .before .if1 .left), eq-eqb _ _ (c .if2 .taken))
+returns-2 c =
+    let a = c .before .before .before .args in
+    simp (offer, eq-eqb (a .rest % 2) 0 (c .before .if1 .left), eq-eqb (a .cost) 0 (c .if2 .taken))
 
 add-result : tie.Need-add-result
 add-result c = let a = c .before .before .before in omega (arith, a .pre .priced, a .pre .low ((a .args .s + a .args .w) % 65536))
@@ -32,7 +34,12 @@ returns-3 : tie.Need-returns-3
 unfolding offer
 returns-3 c =
     let a = c .before .before .before in
-    simp (offer, mod-eq-of-lt (a .pre .inside (c .before .if1 .left)), eq-eqb _ _ (c .before .if1 .left), ne-eqb _ _ (c .if2 .left))
+    simp (
+      offer,
+      mod-eq-of-lt (a .pre .inside (c .before .if1 .left)),
+      eq-eqb (a .args .rest % 2) 0 (c .before .if1 .left),
+      ne-eqb (a .args .cost) 0 (c .if2 .left),
+    )
 
 pub vessel-offer-spec : {M : Type 1} → statement M
 vessel-offer-spec =

@@ -2,7 +2,7 @@
 use assign::AssignAnswer;
 ghost use mathlib.Core.Path.{_≡_};
 ghost use Rattle.assign.specs.Answer.{assignOutcome};
-ghost use Rattle.assigned.specs.Struct.{assignedOf};
+ghost use Rattle.flat_assign.specs.Struct.{assignedOf};
 
 // What assigning crews to vessels comes to.
 #[repr(C)]

@@ -7,8 +7,8 @@ use Rattle.refusals.proofs.Laws.{numbered}
 use Rattle.assign.specs.declared.AssignAnswer.{AssignAnswer}
 use Rattle.assign.specs.declared.AssignAnswer.the-variants.{Best, None, Refused}
 use Rattle.assign.specs.Answer.{assignOutcome}
-use Rattle.assigned.specs.declared.SppAssigned.{SppAssigned}
-use Rattle.assigned.specs.Struct.{assignedOf, outcomeIn}
+use Rattle.flat_assign.specs.declared.SppAssigned.{SppAssigned}
+use Rattle.flat_assign.specs.Struct.{assignedOf, outcomeIn}
 
 outcome-back : (a : AssignAnswer) → outcomeIn (assignedOf (assignOutcome a)) ≡ assignOutcome a
 unfolding assignOutcome assignedOf outcomeIn

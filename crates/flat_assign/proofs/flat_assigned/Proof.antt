@@ -1,9 +1,10 @@
 -- By the arms of the match: a refusal gives its number, and an assignment its total.
+use mathlib.Core.Path.{sym, _∙_, ap}
 use Rattle.assign.specs.Answer.{assignOutcome}
-use Rattle.assigned.specs.Struct.{assignedOf}
+use Rattle.flat_assign.specs.Struct.{assignedOf}
 use borrow.Author.Needs.{needs}
-use Rattle.assigned.proofs.flat_assigned.Statement.{statement}
-use Rattle.assigned.proofs.flat_assigned.Tie as tie
+use Rattle.flat_assign.proofs.flat_assigned.Statement.{statement}
+use Rattle.flat_assign.proofs.flat_assigned.Tie as tie
 
 enum-known-answer : tie.Need-enum-known-answer
 enum-known-answer c = search needs
@@ -35,11 +36,11 @@ returns c = rw (c .assigned .ensures, c .before .number .ensures, c .before .bef
 
 returns-2 : tie.Need-returns-2
 unfolding assignedOf assignOutcome
-returns-2 c = rw (c .assigned2 .ensures, c .before .enum-told .given .1)
+returns-2 c = c .assigned2 .ensures ∙ ap (λ a. assignedOf (assignOutcome a)) (sym (c .before .enum-told .given .1))
 
 returns-3 : tie.Need-returns-3
 unfolding assignedOf assignOutcome
-returns-3 c = rw (c .assigned3 .ensures, c .before .before .answer2 .given .1)
+returns-3 c = c .assigned3 .ensures ∙ ap (λ a. assignedOf (assignOutcome a)) (sym (c .before .before .answer2 .given .1))
 
 pub flat-assigned-spec : {M : Type 1} → statement M
 flat-assigned-spec =

@@ -4,7 +4,7 @@ use mathlib.Core.Bool.{cond}
 use lib.Dec.{eqb}
 use Rattle.refusals.specs.Refusals.{Outcome, accepted, refused}
 use Rattle.assign.specs.Answer.{Values, is-best, is-none}
-use Rattle.assigned.specs.declared.SppAssigned.{SppAssigned}
+use Rattle.flat_assign.specs.declared.SppAssigned.{SppAssigned}
 
 unfoldable pub assignedOf : Outcome Values → SppAssigned
 assignedOf (accepted (is-best x)) = record { refusal = 0; outcome = 1; total = x }
