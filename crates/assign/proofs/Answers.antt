@@ -1,7 +1,7 @@
 -- The answer of a table that passes its tests, and what it means.
-use mathlib.Core.Path.{_≡_, refl, sym, _∙_, ap}
-use mathlib.Core.Bool.{Bool, true, false, cond}
-use mathlib.Core.List.{List, [], map}
+use mathlib.Core.Path.{_≡_, refl, sym, _∙_}
+use mathlib.Core.Bool.{Bool, true, false}
+use mathlib.Core.List.{List, map}
 use Prim.Native.Nat.{ℕ, suc, _-_, _≤_, _<_}
 use native.Mathlib.Omega.{arith}
 use lib.Dec.{ltb}
@@ -9,11 +9,10 @@ use lib.ListN.{length, drop, getD}
 use borrow.Author.Tests.{ltb-true, ltb-false, lt-ltb, le-ltb}
 use Rattle.refusals.specs.Refusals.{fine, fault, Outcome, accepted, refused, front, filled}
 use Rattle.refusals.proofs.Laws.{unless-fine, unless-fault, fills}
-use Rattle.assignments.specs.Assignment.{Assignment, Best, shown}
-use Rattle.assignments.specs.Cheapest.{Found, nothing, found, best}
+use Rattle.assignments.specs.Cheapest.{nothing, found, best}
 use Rattle.assignments.specs.Sets.{noTotal, leastTotal, vessels, count, foundAt}
 use Rattle.assignments.proofs.Sets.{weight-one}
-use Rattle.assignments.proofs.Best.{shown-best, none-valid, valid-none}
+use Rattle.assignments.proofs.Best.{length-vessels, from-one, shown-best, none-valid}
 use Rattle.assignments.proofs.Enumerated.{enumerated}
 use Rattle.vessel_sets.specs.Table.{Sized, leastLeft, Filled}
 use Rattle.assign.specs.Answer.{Values, is-best, is-none, valuesOf, vesselNumbers, tableFault, assigning, vesselList}
@@ -65,6 +64,7 @@ module _ (t : List (List ℕ)) (m n : ℕ) (z : Sized t m n) where
           rw (best-some h)
           (record {
             shows = λ x e. let k : leastTotal t m n ≡ x = cc in rw (← k) b;
+            counted = λ x e i l. from-one (vessels t m n) _ i (omega (arith, length-vessels t n m 0 0));
             none-right = λ e. absurd (let z : _≡_ {A = ℕ} 0 1 = cc in omega arith);
             none-whole = λ never v e. absurd (never _ (b .assignment));
           })
@@ -73,6 +73,7 @@ module _ (t : List (List ℕ)) (m n : ℕ) (z : Sized t m n) where
           rw (best-none h)
           (record {
             shows = λ x e. absurd (let z : _≡_ {A = ℕ} 0 1 = cc in omega arith);
+            counted = λ x e. absurd (let z : _≡_ {A = ℕ} 0 1 = cc in omega arith);
             none-right = λ e. none-valid t m n (omega (arith, z .fits, z .few)) (z .priced) h;
             none-whole = λ never v e. cc;
           })
@@ -81,6 +82,7 @@ module _ (t : List (List ℕ)) (m n : ℕ) (z : Sized t m n) where
 refused-meaning : (t : List (List ℕ)) (m n k : ℕ) (list : List ℕ) → Assigned t m n (refused k) list
 refused-meaning t m n k list = record {
   shows = λ x e. absurd (let z : _≡_ {A = ℕ} 0 1 = cc in omega arith);
+  counted = λ x e. absurd (let z : _≡_ {A = ℕ} 0 1 = cc in omega arith);
   none-right = λ e. absurd (let z : _≡_ {A = ℕ} 0 1 = cc in omega arith);
   none-whole = λ never v e. absurd (let z : _≡_ {A = ℕ} 0 1 = cc in omega arith);
 }

@@ -5,7 +5,7 @@ use mathlib.Core.List.{List, [], _∷_, _++_, map}
 use Prim.Native.Nat.{ℕ, zero, suc, _+_, _-_, _*_, _^_, _≤_, _<_}
 use native.Mathlib.Omega.{arith}
 use lib.Dec.{eqb, ltb}
-use lib.ListN.{getD, drop}
+use lib.ListN.{length, getD, drop}
 use borrow.Author.Tests.{eqb-true, eqb-false, ltb-true, ltb-false}
 use Rattle.assignments.specs.Assignment.{cost, Assignment, totalFrom, total, shown, Best}
 use Rattle.assignments.specs.Sets.{noTotal, has, offers, unpicked, pick, leastFrom, vessel, vesselsFrom, leastTotal, vessels, Priced}
@@ -34,7 +34,18 @@ tail-at [] (suc i) x ys e = cc
 tail-at (y ∷ xs) zero x ys e = cc
 tail-at (y ∷ xs) (suc i) x ys e = tail-at xs i x ys e
 
+-- vessels that are counted from 1, at the front of a list
+pub from-one : (vs ys : List ℕ) (i : ℕ) → i < length vs → 0 < getD (map suc vs ++ ys) i 0
+from-one [] ys i h = absurd (omega arith)
+from-one (v ∷ vs) ys zero h = omega arith
+from-one (v ∷ vs) ys (suc i) h = from-one vs ys i (omega arith)
+
 module _ (t : List (List ℕ)) (n : ℕ) where
+  pub length-vessels : (k i s : ℕ) → length (vesselsFrom t n k i s) ≡ k
+  unfolding vesselsFrom
+  length-vessels zero i s = refl
+  length-vessels (suc k) i s = ap suc (length-vessels k (suc i) (s + 2 ^ vessel t n k i s))
+
   pub total-cap : (k i s : ℕ) → leastFrom t n k i s ≤ noTotal
   unfolding leastFrom
   total-cap zero i s = omega arith

@@ -1,18 +1,18 @@
 -- The answer by sets of used vessels is the cheapest of all assignments, and of equals the first.
 use mathlib.Core.Path.{_≡_, refl, sym, _∙_, ap}
 use mathlib.Core.Bool.{Bool, true, false, cond, not, _||_}
-use mathlib.Core.List.{List, [], _∷_, _++_, map}
+use mathlib.Core.List.{List, [], _∷_, map}
 use Prim.Native.Nat.{ℕ, zero, suc, _+_, _*_, _^_, _≤_, _<_}
 use native.Mathlib.Omega.{arith}
 use lib.Dec.{eqb, ltb}
 use borrow.Author.Tests.{eqb-true, eqb-false, ltb-true, ltb-false}
 use Rattle.assignments.specs.declared.Pick.{Pick}
 use Rattle.assignments.specs.Assignment.{cost}
-use Rattle.assignments.specs.Cheapest.{joined, withOne, assignments, totalOf, Found, nothing, found, cheaper, cheapest, best}
+use Rattle.assignments.specs.Cheapest.{joined, withOne, assignments, totalOf, Found, found, cheaper, cheapest, best}
 use Rattle.assignments.specs.Sets.{noTotal, has, offer, offers, lower, pickFrom, unpicked, pick, leastFrom, vessel, vesselsFrom, leastTotal, vessels, foundAt, Priced}
 use Rattle.assignments.proofs.Sets.{has-empty, has-added, has-other}
 use Rattle.assignments.proofs.Picks.{lower-less, lower-kept}
-use Rattle.assignments.proofs.Best.{Taken, taken}
+use Rattle.assignments.proofs.Best.{taken}
 use Rattle.assignments.proofs.Cheaper.{cheaper-nothing, cheaper-assoc, cheapest-joined, given, cheapest-given, found-low, found-high, keeps-former, takes-latter}
 
 -- the used vessels are those of a set

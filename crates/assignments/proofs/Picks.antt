@@ -1,12 +1,12 @@
 -- The pick of some vessels: nothing that was looked at comes to less, and no vessel before it comes to as little.
-use mathlib.Core.Path.{_≡_, refl, sym, _∙_, ap}
+use mathlib.Core.Path.{_≡_, refl, _∙_, ap}
 use mathlib.Core.Bool.{Bool, true, false, cond}
 use Prim.Native.Nat.{ℕ, zero, suc, _+_, _^_, _≤_, _<_}
 use native.Mathlib.Omega.{arith}
 use lib.Dec.{eqb, ltb}
 use borrow.Author.Tests.{eqb-true, eqb-false, eq-eqb, ne-eqb, ltb-true, ltb-false, lt-ltb, le-ltb}
 use Rattle.assignments.specs.declared.Pick.{Pick}
-use Rattle.assignments.specs.Sets.{noTotal, has, offer, offers, lower, pickFrom, unpicked, pick}
+use Rattle.assignments.specs.Sets.{noTotal, has, offer, offers, lower, pickFrom, pick}
 
 -- one vessel more
 pub lower-less : (b : Pick) (x j : ℕ) → x < b .cost → lower b x j ≡ record { cost = x; vessel = j }

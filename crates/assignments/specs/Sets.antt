@@ -1,5 +1,5 @@
 -- The same answer by sets of used vessels, as the code computes it: the least total from a crew on, and the lowest vessel that keeps it.
-use mathlib.Core.Bool.{Bool, cond}
+use mathlib.Core.Bool.{cond}
 use mathlib.Core.List.{List, [], _∷_}
 use Prim.Native.Nat.{ℕ, zero, suc, _+_, _^_, _/_, _%_, _≤_, _<_}
 use lib.Dec.{eqb, ltb}

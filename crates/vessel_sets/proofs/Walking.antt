@@ -1,7 +1,7 @@
 -- The walk: at crew i, the vessels that are left to write give the whole list.
 use mathlib.Core.Path.{_≡_, refl, sym, _∙_, ap}
 use mathlib.Core.List.{List, [], map}
-use Prim.Native.Nat.{ℕ, zero, suc, _+_, _-_, _^_, _≤_, _<_}
+use Prim.Native.Nat.{ℕ, suc, _+_, _-_, _^_, _≤_, _<_}
 use native.Mathlib.Numerals.{add-one}
 use native.Mathlib.Omega.{arith}
 use lib.ListN.{length, length-map, getD, set, length-set}
@@ -9,19 +9,13 @@ use lib.Seq.{sets}
 use Rattle.refusals.specs.Refusals.{front}
 use Rattle.refusals.proofs.Laws.{front-sets}
 use Rattle.assignments.specs.declared.Pick.{Pick}
-use Rattle.assignments.specs.Assignment.{cost}
-use Rattle.assignments.specs.Sets.{noTotal, offers, unpicked, pick, leastFrom, vessel, vesselsFrom, leastTotal, vessels, count}
+use Rattle.assignments.specs.Sets.{noTotal, unpicked, pick, leastFrom, vessel, vesselsFrom, leastTotal, vessels, count}
 use Rattle.assignments.proofs.Sets.{weight-one, with-below, count-with}
 use Rattle.assignments.proofs.Picks.{pick-same}
-use Rattle.assignments.proofs.Best.{Taken, taken}
+use Rattle.assignments.proofs.Best.{length-vessels, Taken, taken}
 use Rattle.vessel_sets.specs.Table.{offersIn, Row, Sized, Filled}
 use Rattle.vessel_sets.proofs.Loops.{weight-small}
 use Rattle.vessel_sets.proofs.Filling.{offers-left, row-of}
-
-length-vessels : (t : List (List ℕ)) (n k i s : ℕ) → length (vesselsFrom t n k i s) ≡ k
-unfolding vesselsFrom
-length-vessels t n zero i s = refl
-length-vessels t n (suc k) i s = ap suc (length-vessels t n k (suc i) (s + 2 ^ vessel t n k i s))
 
 pub record Walking (t : List (List ℕ)) (m n : ℕ) (d old new : List ℕ) (s i : ℕ) : Type 0 where
   pub problem : Sized t m n

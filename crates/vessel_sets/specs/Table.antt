@@ -1,6 +1,6 @@
 -- The table over the sets of used vessels: what the code fills and reads.
 use mathlib.Core.Path.{_≡_}
-use mathlib.Core.List.{List, []}
+use mathlib.Core.List.{List}
 use Prim.Native.Nat.{ℕ, _+_, _-_, _^_, _%_, _≤_, _<_}
 use lib.ListN.{getD}
 use Rattle.assignments.specs.Sets.{noTotal, offers, leastFrom, count, Priced}
