@@ -6,13 +6,14 @@ use Prim.Native.Nat.{ℕ, suc, _-_, _≤_, _<_}
 use native.Mathlib.Omega.{arith}
 use lib.Dec.{ltb}
 use lib.ListN.{length, drop, getD}
-use borrow.Author.Tests.{ltb-true, ltb-false, lt-ltb, le-ltb}
+use borrow.Author.Tests.{ltb-true, ltb-false}
 use Rattle.refusals.specs.Refusals.{fine, fault, Outcome, accepted, refused, front, filled}
 use Rattle.refusals.proofs.Laws.{unless-fine, unless-fault, fills}
 use Rattle.assignments.specs.Cheapest.{nothing, found, best}
 use Rattle.assignments.specs.Sets.{noTotal, leastTotal, vessels, count, foundAt}
 use Rattle.assignments.proofs.Sets.{weight-one}
 use Rattle.assignments.proofs.Best.{length-vessels, from-one, shown-best, none-valid}
+use Rattle.assignments.proofs.Cheaper.{found-low, found-high}
 use Rattle.assignments.proofs.Enumerated.{enumerated}
 use Rattle.vessel_sets.specs.Table.{Sized, leastLeft, Filled}
 use Rattle.assign.specs.Answer.{Values, is-best, is-none, valuesOf, vesselNumbers, tableFault, assigning, vesselList}
@@ -29,10 +30,10 @@ module _ (t : List (List ℕ)) (m n : ℕ) (z : Sized t m n) where
   best-is = enumerated t m n (omega (arith, z .fits, z .few)) (z .priced)
 
   best-none : noTotal ≤ leastTotal t m n → best t m n ≡ nothing
-  best-none h = best-is ∙ rw (le-ltb (leastTotal t m n) noTotal h)
+  best-none h = best-is ∙ found-high (leastTotal t m n) (vessels t m n) h
 
   best-some : leastTotal t m n < noTotal → best t m n ≡ found (leastTotal t m n) (vessels t m n)
-  best-some h = best-is ∙ rw (lt-ltb (leastTotal t m n) noTotal h)
+  best-some h = best-is ∙ found-low (leastTotal t m n) (vessels t m n) h
 
   -- what the code gives in either case
   pub given-none : (x : ℕ) → x ≡ leastTotal t m n → noTotal ≤ x → accepted is-none ≡ accepted (valuesOf (best t m n))

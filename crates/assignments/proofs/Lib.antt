@@ -1,6 +1,6 @@
 pub mod Sets
 pub mod Picks
 pub mod Best
-mod Cheaper
+pub mod Cheaper
 pub mod Enumerated
 pub mod Outside

@@ -78,8 +78,21 @@ fn none_cases() -> Vec<Case> {
     ]
 }
 
+/// The tables of crates/assign/proofs/Cases.antt besides the paper's examples, with what the checker computes there.
+fn computed_cases() -> Vec<Case> {
+    let (equal, shut) = (table(&[[5, 4, 1], [5, 4, 1_000_001]]), table(&[[7, 0], [7, 0]]));
+    vec![
+        Case { name: "equal", table: Table { vessels: 2, ..equal.clone() }, stated: Some((9, &[1, 2])) },
+        Case { name: "equal, one crew", table: Table { crews: 1, ..equal }, stated: Some((1, &[3])) },
+        Case { name: "shut", table: shut.clone(), stated: None },
+        Case { name: "shut, one crew", table: Table { crews: 1, ..shut }, stated: Some((7, &[1])) },
+        Case { name: "dear", table: table(&[[1, 1_000_000], [3, 0]]), stated: Some((1_000_003, &[2, 1])) },
+    ]
+}
+
 pub fn run(report: &mut Report) {
-    for Case { name, table, stated } in square_cases().into_iter().chain(wide_cases()).chain(none_cases()) {
+    let cases = [square_cases(), wide_cases(), none_cases(), computed_cases()];
+    for Case { name, table, stated } in cases.into_iter().flatten() {
         let found = assign_case::accepted(report, &table, table.crews);
         report.group("crews onto vessels: stated values, the paper's examples 5 and 6 and others");
         let stated = stated.map(|(total, vessels)| (total, vessels.to_vec()));
