@@ -25,6 +25,13 @@ pub total-at : (t : List (List ℕ)) (m n : ℕ) (d : List ℕ) → Filled t m n
 unfolding leastLeft count
 total-at t m n d f = let e : m - 0 ≡ m = omega arith in f .at 0 (omega arith) (weight-one n) ∙ rw e
 
+-- answers that differ
+best-or-none : (x : ℕ) → accepted (is-best x) ≡ accepted is-none → ⊥
+best-or-none x e = let z : _≡_ {A = ℕ} 0 1 = cc in omega arith
+
+not-refused : (k : ℕ) (v : Values) → refused k ≡ accepted v → ⊥
+not-refused k v e = let z : _≡_ {A = ℕ} 0 1 = cc in omega arith
+
 module _ (t : List (List ℕ)) (m n : ℕ) (z : Sized t m n) where
   best-is : best t m n ≡ foundAt (leastTotal t m n) (vessels t m n)
   best-is = enumerated t m n (omega (arith, z .fits, z .few)) (z .priced)
@@ -66,15 +73,15 @@ module _ (t : List (List ℕ)) (m n : ℕ) (z : Sized t m n) where
           (record {
             shows = λ x e. let k : leastTotal t m n ≡ x = cc in rw (← k) b;
             counted = λ x e i l. from-one (vessels t m n) _ i (omega (arith, length-vessels t n m 0 0));
-            none-right = λ e. absurd (let z : _≡_ {A = ℕ} 0 1 = cc in omega arith);
+            none-right = λ e. absurd (best-or-none (leastTotal t m n) e);
             none-whole = λ never v e. absurd (never _ (b .assignment));
           })
       go false q =
           let h = ltb-false (leastTotal t m n) noTotal q in
           rw (best-none h)
           (record {
-            shows = λ x e. absurd (let z : _≡_ {A = ℕ} 0 1 = cc in omega arith);
-            counted = λ x e. absurd (let z : _≡_ {A = ℕ} 0 1 = cc in omega arith);
+            shows = λ x e. absurd (best-or-none x (sym e));
+            counted = λ x e. absurd (best-or-none x (sym e));
             none-right = λ e. none-valid t m n (omega (arith, z .fits, z .few)) (z .priced) h;
             none-whole = λ never v e. cc;
           })
@@ -82,10 +89,10 @@ module _ (t : List (List ℕ)) (m n : ℕ) (z : Sized t m n) where
 -- a refusal shows nothing
 refused-meaning : (t : List (List ℕ)) (m n k : ℕ) (list : List ℕ) → Assigned t m n (refused k) list
 refused-meaning t m n k list = record {
-  shows = λ x e. absurd (let z : _≡_ {A = ℕ} 0 1 = cc in omega arith);
-  counted = λ x e. absurd (let z : _≡_ {A = ℕ} 0 1 = cc in omega arith);
-  none-right = λ e. absurd (let z : _≡_ {A = ℕ} 0 1 = cc in omega arith);
-  none-whole = λ never v e. absurd (let z : _≡_ {A = ℕ} 0 1 = cc in omega arith);
+  shows = λ x e. absurd (not-refused k (is-best x) e);
+  counted = λ x e. absurd (not-refused k (is-best x) e);
+  none-right = λ e. absurd (not-refused k is-none e);
+  none-whole = λ never v e. absurd (not-refused k v e);
 }
 
 -- what the call ensures, by its outcome and its list before and after
