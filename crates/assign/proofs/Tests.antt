@@ -1,6 +1,6 @@
 -- The tests: what is left to test gives the whole, and what it means that all pass.
 use mathlib.Core.Path.{_≡_, refl}
-use mathlib.Core.Bool.{Bool, true, false, _&&_}
+use mathlib.Core.Bool.{Bool, true, false, _&&_, and-eq-true-iff}
 use mathlib.Core.List.{List}
 use Prim.Native.Nat.{ℕ, zero, suc, _+_, _-_, _≤_, _<_}
 use native.Mathlib.Numerals.{add-one}
@@ -32,17 +32,13 @@ module _ (f : ℕ → Bool) (n : ℕ) where
   unfolding allOf
   all-end j h = let e : n - j ≡ 0 = omega arith in rw e
 
-pair : (a b : Bool) → (a && b) ≡ true → (a ≡ true) × (b ≡ true)
-pair true b e = (refl, e)
-pair false b e = (e, cc)
-
 all-at : (f : ℕ → Bool) (v j c : ℕ) → allOf f v j ≡ true → j ≤ c → c < j + v → f c ≡ true
 unfolding allOf
 all-at f zero j c e l u = absurd (omega arith)
-all-at f (suc v) j c e l u = go (eqb c j) refl (λ o. all-at f v (suc j) c (pair (f j) _ e .1) o (omega arith))
+all-at f (suc v) j c e l u = go (eqb c j) refl (λ o. all-at f v (suc j) c (and-eq-true-iff (f j) _ .0 e .1) o (omega arith))
   where
     go : (b : Bool) → eqb c j ≡ b → (suc j ≤ c → f c ≡ true) → f c ≡ true
-    go true q k = rw (eqb-true c j q) (pair (f j) _ e .0)
+    go true q k = rw (eqb-true c j q) (and-eq-true-iff (f j) _ .0 e .0)
     go false q k = let ne = eqb-false c j q in k (omega arith)
 
 -- the sizes pass

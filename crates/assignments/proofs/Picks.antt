@@ -117,10 +117,13 @@ pub record Free (c : ℕ → ℕ) (s j : ℕ) : Type 0 where
   pub unused : has j s ≡ 0
   pub priced : 0 < c j
 
-pub offers-free : (c rest : ℕ → ℕ) (s j : ℕ) → Free c s j → offers c rest s j ≡ c j + rest (s + 2 ^ j)
+-- it comes to its cost and the rest
+pub offer-free : (used c rest : ℕ) → used ≡ 0 → 0 < c → offer used c rest ≡ c + rest
 unfolding offer
-offers-free c rest s j w =
-    rw (eq-eqb (has j s) 0 (w .unused), ne-eqb (c j) 0 (λ e. omega (arith, w .priced)))
+offer-free used c rest u p = rw (eq-eqb used 0 u, ne-eqb c 0 (λ e. omega arith))
+
+pub offers-free : (c rest : ℕ → ℕ) (s j : ℕ) → Free c s j → offers c rest s j ≡ c j + rest (s + 2 ^ j)
+offers-free c rest s j w = offer-free (has j s) (c j) (rest (s + 2 ^ j)) (w .unused) (w .priced)
 
 pub free-offers : (c rest : ℕ → ℕ) (s j : ℕ) → offers c rest s j < noTotal → Free c s j
 unfolding offer

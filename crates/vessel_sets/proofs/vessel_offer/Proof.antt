@@ -1,10 +1,13 @@
 -- A vessel that is used or closed comes to no total, and else to its cost and the rest.
+use mathlib.Core.Path.{sym, _∙_, ap}
 use Prim.Native.Nat.{_+_, _%_}
 use native.Mathlib.Nat.{mod-eq-of-lt}
 use native.Mathlib.Omega.{arith}
+use lib.ListN.{getD}
 use borrow.Author.Needs.{needs}
 use borrow.Author.Tests.{eq-eqb, ne-eqb}
 use Rattle.assignments.specs.Sets.{offer}
+use Rattle.assignments.proofs.Picks.{offer-free}
 use Rattle.vessel_sets.proofs.vessel_offer.Statement.{statement}
 use Rattle.vessel_sets.proofs.vessel_offer.Tie as tie
 
@@ -31,15 +34,11 @@ add-result : tie.Need-add-result
 add-result c = let a = c .before .before .before in omega (arith, a .pre .priced, a .pre .low ((a .args .s + a .args .w) % 65536))
 
 returns-3 : tie.Need-returns-3
-unfolding offer
 returns-3 c =
     let a = c .before .before .before in
-    simp (
-      offer,
-      mod-eq-of-lt (a .pre .inside (c .before .if1 .left)),
-      eq-eqb (a .args .rest % 2) 0 (c .before .if1 .left),
-      ne-eqb (a .args .cost) 0 (c .if2 .left),
-    )
+    let unused = c .before .if1 .left in
+    ap (λ u. a .args .cost + getD (a .args .least .now) u 0) (mod-eq-of-lt (a .pre .inside unused))
+    ∙ sym (offer-free _ _ _ unused (omega arith))
 
 pub vessel-offer-spec : {M : Type 1} → statement M
 vessel-offer-spec =
