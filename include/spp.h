@@ -2,7 +2,7 @@
  * Crew plans from a duty file, and crews onto vessels: the C interface of the engine.
  *
  * Link with target/staticlib/libspp.a, which `rt staticlib spp` builds. Call the functions at the end of this file, spp_read to
- * spp_assign. They refuse lists of which any two overlap, two that are only read among them, and null pointers, before the engine is
+ * spp_uncrewed. They refuse lists of which any two overlap, two that are only read among them, and null pointers, before the engine is
  * entered; the functions spp_core_.. are the engine itself, which takes for granted that no two lists overlap and that no pointer is
  * null.
  *
@@ -27,6 +27,9 @@ extern "C" {
 #define SPP_MOST_COST 1000000
 #define SPP_MOST_NODES 1000000
 
+/* The most columns of a file that spp_uncrewed takes. */
+#define SPP_MOST_TRIAL_COLUMNS 192
+
 /* Largest values in an accepted table; its costs are at most SPP_MOST_COST. */
 #define SPP_MOST_CREWS 16
 #define SPP_MOST_VESSELS 16
@@ -38,7 +41,7 @@ extern "C" {
 #define SPP_CUT_CONTENTS 3    /* the file ends inside the contents */
 #define SPP_BAD_COST 4        /* a cost is out of range */
 #define SPP_BAD_LENGTH 5      /* a body length is out of range */
-#define SPP_MANY_ENTRIES 6    /* the body lengths sum to more than 4,096 */
+#define SPP_MANY_ENTRIES 6    /* the body lengths sum to more than 4,096, for spp_uncrewed with its extra columns */
 #define SPP_BAD_START 7       /* a body does not start where the former ends */
 #define SPP_BAD_END 8         /* the file does not end with the last body */
 #define SPP_BAD_ROW 9         /* a row number is out of range, or a body does not rise */
@@ -50,16 +53,21 @@ extern "C" {
 #define SPP_BAD_ABSENT 15     /* an absent column is out of range, or the absent list does not rise */
 #define SPP_BAD_TABLE 16      /* the table has no crews, above 16 crews or vessels, or more crews than vessels */
 #define SPP_BAD_TABLE_COST 17 /* a cost in the table is above 1,000,000 */
+#define SPP_MANY_COLUMNS 18   /* the file has more columns than spp_uncrewed takes, 192 */
 #define SPP_OVERLAP 100       /* two lent lists overlap, or a list reaches beyond the address space */
 #define SPP_NULL 101          /* a null pointer was lent with a number of places above 0, or for a struct or a table */
 
 /*
- * Values of `outcome`; 0 with a refusal. Plans are those that hold every agreed column and no absent one (struct spp_lists). For
- * spp_assign read assignment for plan and total for price.
+ * Values of `outcome`, but for struct spp_uncrewed; 0 with a refusal. Plans are those that hold every agreed column and no absent one
+ * (struct spp_lists). For spp_assign read assignment for plan and total for price.
  */
 #define SPP_BEST 1    /* no plan has a lower price than the one shown */
 #define SPP_NONE 2    /* there is no plan */
 #define SPP_STOPPED 3 /* the node limit was reached */
+
+/* Values of `outcome` in struct spp_uncrewed, with SPP_STOPPED as the third; 0 with a refusal. */
+#define SPP_NO_CREW 1     /* rows 1 to `row` cannot be covered */
+#define SPP_PLAN_EXISTS 2 /* there is a plan */
 
 /* What the reader found. */
 struct spp_shape {
@@ -129,6 +137,17 @@ struct spp_assigned {
     uint64_t total;   /* with best: the total of the assignment shown */
 };
 
+/*
+ * Up to which row the rows cannot be covered. Rows 1 to k can be covered if there are columns, of which no two share a row, that cover each
+ * of these rows; they may cover rows above k too.
+ */
+struct spp_uncrewed {
+    uint32_t refusal; /* 0, or why nothing was tried */
+    uint32_t outcome; /* SPP_NO_CREW, SPP_PLAN_EXISTS or SPP_STOPPED */
+    uint32_t row;     /* with SPP_NO_CREW: the lowest k such that rows 1 to k cannot be covered; with SPP_STOPPED: the trial stopped */
+    uint32_t columns; /* with SPP_NO_CREW: number of columns shown, filled in at the front of the list */
+};
+
 /* The engine. No two lists of a call may overlap and no pointer may be null, not even for an empty list. */
 struct spp_shape spp_core_read(const uint8_t *file, size_t file_count, uint32_t *costs, size_t cost_count,
                                uint16_t *lengths, size_t length_count, uint8_t *rows, size_t row_count);
@@ -146,6 +165,8 @@ struct spp_answer spp_core_longest(const uint8_t *file, size_t file_count, uint3
                                    size_t plan_count);
 struct spp_assigned spp_core_assign(size_t crews, size_t vessels, const uint32_t *table, uint8_t *answer,
                                     size_t answer_count);
+struct spp_uncrewed spp_core_uncrewed(const uint8_t *file, size_t file_count, uint32_t node_limit, uint16_t *shown,
+                                      size_t shown_count);
 
 /* One of the engine's two searches. */
 typedef struct spp_answer (*spp_core_call)(const uint8_t *file, size_t file_count, uint32_t node_limit,
@@ -348,6 +369,31 @@ static inline struct spp_assigned spp_assign(size_t crews, size_t vessels, const
         return refused;
     }
     return spp_core_assign(crews, vessels, table, answer ? answer : &no_vessel, answer_count);
+}
+
+/*
+ * Finds the lowest k such that rows 1 to k cannot be covered: fills in columns, rising, of which no two share a row and which cover each of
+ * rows 1 to k - 1, none for k = 1. With SPP_PLAN_EXISTS and SPP_STOPPED the list is not touched.
+ *
+ * Trial k is spp_search, with `node_limit` from 1 to 1,000,000, on the file with one extra column of cost 1 appended for each row above k,
+ * rising. The trials go from k = 1 upwards. The first one without a plan gives k if it is not stopped, and SPP_STOPPED if it is. The
+ * columns shown are those of the plan of trial k - 1, which may have been stopped, without the extra ones. If each trial has a plan, there
+ * is a plan of the file.
+ *
+ * The file must have at most 192 columns, and with the extra columns of trial 1, one fewer than there are rows, at most 4,096 entries. The
+ * list must hold as many places as there are rows.
+ */
+static inline struct spp_uncrewed spp_uncrewed(const uint8_t *file, size_t file_count, uint32_t node_limit, uint16_t *shown,
+                                               size_t shown_count) {
+    const struct spp_list lists[2] = {{file, file_count, sizeof *file}, {shown, shown_count, sizeof *shown}};
+    struct spp_uncrewed refused = {0, 0, 0, 0};
+    uint8_t no_file = 0;
+    uint16_t no_column = 0;
+    refused.refusal = spp_guard(lists, 2);
+    if (refused.refusal) {
+        return refused;
+    }
+    return spp_core_uncrewed(file ? file : &no_file, file_count, node_limit, shown ? shown : &no_column, shown_count);
 }
 
 #endif

@@ -15,12 +15,12 @@
 #define TABLE 0  /* the place of the table among the lists of spp_assign */
 #define PLACES (SPP_MOST_CREWS * SPP_MOST_VESSELS)
 
-enum call { READ, WRITE, CHECK, REDUCE, SEARCH, LONGEST, SEARCH_WITH, LONGEST_WITH, ASSIGN };
+enum call { READ, WRITE, CHECK, REDUCE, SEARCH, LONGEST, SEARCH_WITH, LONGEST_WITH, ASSIGN, UNCREWED };
 static const char *const call_names[] = {"spp_read",    "spp_write",       "spp_check",        "spp_reduce", "spp_search",
-                                         "spp_longest", "spp_search_with", "spp_longest_with", "spp_assign"};
+                                         "spp_longest", "spp_search_with", "spp_longest_with", "spp_assign", "spp_uncrewed"};
 
 /* The lists of each call: how many, and the bytes of one place. */
-static const size_t list_counts[] = {4, 4, 2, 3, 2, 2, 5, 5, 2};
+static const size_t list_counts[] = {4, 4, 2, 3, 2, 2, 5, 5, 2, 2};
 static const size_t place_sizes[][MOST_LISTS] = {{1, 4, 2, 1, 0},
                                                  {4, 2, 1, 1, 0},
                                                  {1, 2, 0, 0, 0},
@@ -29,7 +29,8 @@ static const size_t place_sizes[][MOST_LISTS] = {{1, 4, 2, 1, 0},
                                                  {1, 2, 0, 0, 0},
                                                  {1, 2, 2, 2, sizeof(struct spp_lists)},
                                                  {1, 2, 2, 2, sizeof(struct spp_lists)},
-                                                 {4, 1, 0, 0, 0}};
+                                                 {4, 1, 0, 0, 0},
+                                                 {1, 2, 0, 0, 0}};
 
 /* Example 1 of the paper, which is example 7 too: 5 rows, 8 columns, 13 entries. */
 static const uint32_t costs[8] = {3, 7, 5, 8, 10, 4, 6, 9};
@@ -39,6 +40,12 @@ static const uint16_t plan[3] = {1, 4, 7}, longest_plan[3] = {2, 3, 7};
 /* With these lists the plan 2 3 7 is forced. */
 static const uint16_t agreed[1] = {2}, absent[1] = {8};
 static uint8_t file[85];
+
+/* 5 rows, 3 columns: no column covers row 4, and columns 1 and 2 cover rows 1 to 3. */
+static const uint32_t gap_costs[3] = {6, 8, 7};
+static const uint16_t gap_lengths[3] = {2, 1, 1}, gap_shown[2] = {1, 2};
+static const uint8_t gap_rows[4] = {1, 2, 3, 5};
+static uint8_t gap_file[36];
 
 /* Example 5 of the paper: 5 crews, 5 vessels. */
 static const uint32_t example_5[5][5] = {
@@ -98,6 +105,8 @@ static uint32_t refusal_of(enum call call, const struct lent *l) {
         return spp_search((uint8_t *)l[0].start, l[0].count, 1000, (uint16_t *)l[1].start, l[1].count).refusal;
     case LONGEST:
         return spp_longest((uint8_t *)l[0].start, l[0].count, 1000, (uint16_t *)l[1].start, l[1].count).refusal;
+    case UNCREWED:
+        return spp_uncrewed((uint8_t *)l[0].start, l[0].count, 1000, (uint16_t *)l[1].start, l[1].count).refusal;
     case ASSIGN:
         return spp_assign(5, 5, (uint32_t *)l[TABLE].start, (uint8_t *)l[1].start, l[1].count).refusal;
     default:
@@ -142,7 +151,8 @@ static void put_struct(enum call call, const struct lent *l) {
 static void lend(enum call call, struct lent *l) {
     static const size_t counts[][MOST_LISTS] = {{85, 8, 8, 13, 0}, {8, 8, 13, 85, 0}, {85, 3, 0, 0, 0},
                                                 {85, 8, 5, 0, 0},  {85, 5, 0, 0, 0},  {85, 5, 0, 0, 0},
-                                                {85, 1, 1, 5, 1},  {85, 1, 1, 5, 1},  {PLACES, 8, 0, 0, 0}};
+                                                {85, 1, 1, 5, 1},  {85, 1, 1, 5, 1},  {PLACES, 8, 0, 0, 0},
+                                                {85, 5, 0, 0, 0}};
     size_t i;
     for (i = 0; i < BLOCK; i++) {
         block.bytes[i] = (uint8_t)(i * 5 + 77);
@@ -382,6 +392,71 @@ static void accepted_assign(void) {
     assigns(16, 16, other, 16, none, "no open pairing");
 }
 
+/* The stated answer of spp_uncrewed and the columns shown, with no other place of the list touched, and the same from the engine. */
+static void tries(const uint8_t *bytes, size_t count, uint32_t node_limit, size_t room, struct spp_uncrewed wanted,
+                  const char *what) {
+    uint16_t found[64], core_found[64], wanted_list[64];
+    struct spp_uncrewed a, b;
+    memset(found, 0xa5, sizeof found);
+    memset(core_found, 0xa5, sizeof core_found);
+    memset(wanted_list, 0xa5, sizeof wanted_list);
+    memcpy(wanted_list, gap_shown, wanted.columns * sizeof *gap_shown);
+    a = spp_uncrewed(bytes, count, node_limit, found, room);
+    b = spp_core_uncrewed(bytes, count, node_limit, core_found, room);
+    holds(a.refusal == wanted.refusal && a.outcome == wanted.outcome && a.row == wanted.row && a.columns == wanted.columns,
+          UNCREWED, what);
+    holds(b.refusal == wanted.refusal && b.outcome == wanted.outcome && b.row == wanted.row && b.columns == wanted.columns,
+          UNCREWED, what);
+    holds(!memcmp(found, wanted_list, sizeof found) && !memcmp(core_found, wanted_list, sizeof found), UNCREWED, what);
+}
+
+/* A file of columns of the same rows, 1 to a length, all at cost 1; gives its number of bytes. */
+static size_t same_columns(uint16_t row_count, size_t count, uint16_t length, uint8_t *out) {
+    static uint32_t ones[SPP_MOST_COLUMNS];
+    static uint16_t same_lengths[SPP_MOST_COLUMNS];
+    static uint8_t numbers[SPP_MOST_ENTRIES];
+    size_t i;
+    for (i = 0; i < count; i++) {
+        ones[i] = 1;
+        same_lengths[i] = length;
+    }
+    for (i = 0; i < count * length; i++) {
+        numbers[i] = (uint8_t)(i % length + 1);
+    }
+    return spp_write(row_count, ones, count, same_lengths, count, numbers, count * length, out, SPP_MOST_BYTES).length;
+}
+
+/* Answers of spp_uncrewed that have a number of their own in each field of the struct, and its refusals. */
+static void accepted_uncrewed(void) {
+    const struct spp_uncrewed no_crew = {SPP_ACCEPTED, SPP_NO_CREW, 4, 2}, planned = {SPP_ACCEPTED, SPP_PLAN_EXISTS, 0, 0};
+    const struct spp_uncrewed no_crew_for_1 = {SPP_ACCEPTED, SPP_NO_CREW, 1, 0}, stopped = {SPP_ACCEPTED, SPP_STOPPED, 1, 0};
+    const struct spp_uncrewed short_list = {SPP_SHORT_LIST, 0, 0, 0}, bad_limit = {SPP_BAD_LIMIT, 0, 0, 0};
+    const struct spp_uncrewed many_columns = {SPP_MANY_COLUMNS, 0, 0, 0}, many_entries = {SPP_MANY_ENTRIES, 0, 0, 0};
+    static uint8_t other[SPP_MOST_BYTES];
+    uint8_t row_2[17];
+    size_t count;
+    struct spp_written written = spp_write(5, gap_costs, 3, gap_lengths, 3, gap_rows, 4, gap_file, sizeof gap_file);
+    holds(written.refusal == 0 && written.length == sizeof gap_file, WRITE, "the file without a column on row 4");
+    tries(gap_file, sizeof gap_file, 1000, 5, no_crew, "no column on row 4");
+    tries(gap_file, sizeof gap_file, SPP_MOST_NODES, 64, no_crew, "no column on row 4, a longer list");
+    tries(gap_file, sizeof gap_file, 1000, 4, short_list, "a short list");
+    tries(gap_file, sizeof gap_file, 0, 5, bad_limit, "node limit 0");
+    tries(gap_file, sizeof gap_file, SPP_MOST_NODES + 1, 5, bad_limit, "node limit 1,000,001");
+    tries(file, 85, 1000, 5, planned, "example 1");
+    written = spp_write(2, costs, 1, lengths, 1, gap_rows + 1, 1, row_2, sizeof row_2);
+    tries(row_2, written.length, 1000, 2, no_crew_for_1, "no column on row 1");
+    count = same_columns(1, SPP_MOST_TRIAL_COLUMNS, 1, other);
+    tries(other, count, 1000, 1, planned, "192 columns");
+    count = same_columns(1, SPP_MOST_TRIAL_COLUMNS + 1, 1, other);
+    tries(other, count, 0, 0, many_columns, "193 columns");
+    count = same_columns(64, 64, 63, other);
+    tries(other, count, 0, 0, short_list, "4,032 entries and 63 extra columns");
+    count = same_columns(64, 64, 64, other);
+    tries(other, count, 0, 0, many_entries, "4,096 entries and 63 extra columns");
+    count = same_columns(2, 2, 1, other);
+    tries(other, count, 1, 2, stopped, "two columns on row 1, node limit 1");
+}
+
 /* Accepted calls through the header: stated values. */
 static void accepted(void) {
     uint32_t read_costs[8], reduced[8];
@@ -402,6 +477,7 @@ static void accepted(void) {
     accepted_lists(SEARCH_WITH, 18);
     accepted_lists(LONGEST_WITH, 7);
     accepted_assign();
+    accepted_uncrewed();
 }
 
 int main(void) {
@@ -410,7 +486,7 @@ int main(void) {
     holds(written.refusal == 0 && written.length == sizeof file, WRITE, "example 1");
     fill_table();
     accepted();
-    for (call = READ; call <= ASSIGN; call++) {
+    for (call = READ; call <= UNCREWED; call++) {
         pairs((enum call)call);
         nulls((enum call)call);
     }

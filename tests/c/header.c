@@ -9,6 +9,8 @@ const search_with spp_header_searches_with[2] = {spp_search_with, spp_longest_wi
 /* The engine's call and the guarded one are called alike. */
 typedef struct spp_assigned (*assign)(size_t, size_t, const uint32_t *, uint8_t *, size_t);
 const assign spp_header_assigns[2] = {spp_assign, spp_core_assign};
+typedef struct spp_uncrewed (*uncrewed)(const uint8_t *, size_t, uint32_t, uint16_t *, size_t);
+const uncrewed spp_header_uncrewed[2] = {spp_uncrewed, spp_core_uncrewed};
 
 /* The layout of struct spp_lists, as a type that is in error if it differs: four fields without a gap. */
 #define WORDS_BEFORE(field) (offsetof(struct spp_lists, field) / sizeof(size_t))
@@ -22,6 +24,14 @@ typedef char spp_header_lists_layout[WORDS_BEFORE(agreed) == 0 && WORDS_BEFORE(a
 #define BYTES_BEFORE(field) offsetof(struct spp_assigned, field)
 typedef char spp_header_assigned_layout[BYTES_BEFORE(refusal) == 0 && BYTES_BEFORE(outcome) == 4 &&
                                                 BYTES_BEFORE(total) == 8 && sizeof(struct spp_assigned) == 16
+                                            ? 1
+                                            : -1];
+
+/* The layout of struct spp_uncrewed, in the same way: four times 4 bytes without a gap. */
+#define WORDS_OF_UNCREWED(field) (offsetof(struct spp_uncrewed, field) / sizeof(uint32_t))
+typedef char spp_header_uncrewed_layout[WORDS_OF_UNCREWED(refusal) == 0 && WORDS_OF_UNCREWED(outcome) == 1 &&
+                                                WORDS_OF_UNCREWED(row) == 2 && WORDS_OF_UNCREWED(columns) == 3 &&
+                                                sizeof(struct spp_uncrewed) == 16
                                             ? 1
                                             : -1];
 

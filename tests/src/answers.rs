@@ -5,6 +5,10 @@ pub const BEST: u32 = 1;
 pub const NONE: u32 = 2;
 pub const STOPPED: u32 = 3;
 
+/// Values of `Uncrewed::outcome`, with `STOPPED` as the third.
+pub const NO_CREW: u32 = 1;
+pub const PLAN_EXISTS: u32 = 2;
+
 /// What the reader found.
 #[repr(C)]
 #[derive(Clone, Copy, Debug, Default, PartialEq, Eq)]
@@ -63,4 +67,14 @@ pub struct Assigned {
     pub refusal: u32,
     pub outcome: u32,
     pub total: u64,
+}
+
+/// Up to which row the rows cannot be covered.
+#[repr(C)]
+#[derive(Clone, Copy, Debug, Default, PartialEq, Eq)]
+pub struct Uncrewed {
+    pub refusal: u32,
+    pub outcome: u32,
+    pub row: u32,
+    pub columns: u32,
 }

@@ -3,7 +3,7 @@
 
 use std::hint::black_box;
 
-use spp_tests::answers::{Answer, Assigned, Checked, Reduced, Shape, Written};
+use spp_tests::answers::{Answer, Assigned, Checked, Reduced, Shape, Uncrewed, Written};
 use spp_tests::goal::Goal;
 use spp_tests::requests::Requests;
 use spp_tests::table::{Costs, Table};
@@ -162,6 +162,26 @@ pub fn assign(report: &mut Report, table: &Table, room: usize) -> (Assigned, Len
     (found.0, found.1)
 }
 
+type UncrewedCall = fn(&[u8], u32, &mut [u16]) -> Uncrewed;
+
+/// The answer, and its lists after the call: the columns shown and the file.
+type Tried = (Uncrewed, Lent<u16>, Lent<u8>);
+
+/// The answer, and the columns shown. The places behind these keep the pattern.
+pub fn uncrewed(report: &mut Report, file: &[u8], limit: u32, room: usize) -> (Uncrewed, Vec<u16>) {
+    let run = |call: UncrewedCall| -> Tried {
+        let (mut shown, lent_file) = (shorts(room), bytes(file.len()).holding(file));
+        (call(lent_file.list(), limit, shown.list_mut()), shown, black_box(lent_file))
+    };
+    let what = || format!("sailings that can't be crewed, allowance {limit}, room {room}, {}", hex(file));
+    let found = run(engine::uncrewed);
+    report.same(&found, &run(plain::uncrewed), what);
+    let count = (found.0.columns as usize).min(room);
+    let (list, pattern) = (found.1.list(), shorts(room));
+    report.holds(list[count..] == pattern.list()[count..], || format!("places not filled in, {}", what()));
+    (found.0, list[..count].to_vec())
+}
+
 /// All calls that take a file, with room for any file.
 pub fn all_calls(report: &mut Report, file: &[u8], limit: u32) {
     read(report, file, [256, 256, 4096]);
@@ -170,4 +190,5 @@ pub fn all_calls(report: &mut Report, file: &[u8], limit: u32) {
     for goal in Goal::BOTH {
         search(report, goal, file, limit, 64);
     }
+    uncrewed(report, file, limit, 64);
 }

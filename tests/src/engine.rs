@@ -1,6 +1,6 @@
 //! The static library's calls on slices. Slices are never null and a `&mut` slice overlaps no other, which is what the library asks.
 
-use crate::answers::{Answer, Assigned, Checked, Reduced, Shape, Written};
+use crate::answers::{Answer, Assigned, Checked, Reduced, Shape, Uncrewed, Written};
 use crate::goal::Goal;
 use crate::requests::Requests;
 use crate::table::Costs;
@@ -59,6 +59,7 @@ extern "C" {
         plan_count: usize,
     ) -> Answer;
     fn spp_core_assign(crews: usize, vessels: usize, table: *const u32, answer: *mut u8, answer_count: usize) -> Assigned;
+    fn spp_core_uncrewed(file: *const u8, file_count: usize, node_limit: u32, shown: *mut u16, shown_count: usize) -> Uncrewed;
 }
 
 pub fn read(file: &[u8], costs: &mut [u32], lengths: &mut [u16], numbers: &mut [u8]) -> Shape {
@@ -128,4 +129,8 @@ pub fn search_with(goal: Goal, file: &[u8], limit: u32, requests: Requests, plan
 
 pub fn assign(crews: usize, vessels: usize, costs: &Costs, answer: &mut [u8]) -> Assigned {
     unsafe { spp_core_assign(crews, vessels, costs.as_ptr(), answer.as_mut_ptr(), answer.len()) }
+}
+
+pub fn uncrewed(file: &[u8], limit: u32, shown: &mut [u16]) -> Uncrewed {
+    unsafe { spp_core_uncrewed(file.as_ptr(), file.len(), limit, shown.as_mut_ptr(), shown.len()) }
 }

@@ -111,6 +111,14 @@ pub fn deepest() -> Columns {
     Columns { rows: 17, costs: vec![7; 256], bodies: bodies.collect() }
 }
 
+/// The first 192 columns of `deepest`, as many as 02, P6 takes: rows 1 to 17 cannot be covered, rows 1 to 16 can.
+pub fn deepest_of_trials() -> Columns {
+    let mut columns = deepest();
+    columns.costs.truncate(192);
+    columns.bodies.truncate(192);
+    columns
+}
+
 /// The columns of `deepest` at differing costs.
 pub fn deepest_at_differing_costs() -> Columns {
     let mut columns = deepest();

@@ -22,7 +22,7 @@ fn costs(random: &mut Random, bodies: &[Vec<u8>]) -> Vec<u32> {
 }
 
 /// A random set of rows in which each row is with the given chance; never empty.
-fn body(random: &mut Random, rows: usize, percent: usize) -> Vec<u8> {
+pub(crate) fn body(random: &mut Random, rows: usize, percent: usize) -> Vec<u8> {
     let mut body: Vec<u8> = (1..=rows as u8).filter(|_| random.chance(percent)).collect();
     if body.is_empty() {
         body.push(random.within(1, rows) as u8);
@@ -38,7 +38,7 @@ fn ferry_body(random: &mut Random, rows: usize, longest: usize, left_out: usize)
 }
 
 /// A random plan: each row goes to one of a number of columns.
-fn planted(random: &mut Random, rows: usize, parts: usize) -> Vec<Vec<u8>> {
+pub(crate) fn planted(random: &mut Random, rows: usize, parts: usize) -> Vec<Vec<u8>> {
     let mut bodies = vec![Vec::new(); parts];
     for row in 1..=rows {
         bodies[random.within(0, parts - 1)].push(row as u8);
@@ -60,7 +60,7 @@ fn ferry_planted(random: &mut Random, rows: usize, longest: usize) -> Vec<Vec<u8
 }
 
 /// Puts the bodies into a random sequence.
-fn shuffle(random: &mut Random, bodies: &mut [Vec<u8>]) {
+pub(crate) fn shuffle(random: &mut Random, bodies: &mut [Vec<u8>]) {
     for last in (1..bodies.len()).rev() {
         bodies.swap(last, random.within(0, last));
     }
@@ -86,7 +86,7 @@ fn uncover(random: &mut Random, bodies: &mut [Vec<u8>], rows: usize) {
 }
 
 /// Columns of these bodies, cut to the most columns and entries that a file may have.
-fn finish(random: &mut Random, rows: usize, mut bodies: Vec<Vec<u8>>) -> Columns {
+pub(crate) fn finish(random: &mut Random, rows: usize, mut bodies: Vec<Vec<u8>>) -> Columns {
     bodies.truncate(256);
     let mut room = MOST_ENTRIES;
     bodies.retain(|body| {

@@ -10,7 +10,7 @@ use std::time::Instant;
 
 use report::Report;
 
-/// The word that makes the program run the deepest searches and the largest table on a small stack.
+/// The word that makes the program run the deepest searches and trials and the largest table on a small stack.
 const SMALL_STACK: &str = "small-stack";
 
 /// The word for the stored values alone.
@@ -24,21 +24,25 @@ fn status(passed: bool) -> ExitCode {
     }
 }
 
-/// Runs this program anew for the deepest searches and the largest table.
+/// Runs this program anew for the deepest searches and trials and the largest table.
 fn small_stack(report: &mut Report) {
-    report.group("the deepest searches, and a table of 16 by 16, on a thread with a stack of 2 MiB");
+    report.group("the deepest searches and trials, and a table of 16 by 16, on a thread with a stack of 2 MiB");
     let program = std::env::current_exe().expect("the program's path is known");
     let run = Command::new(program).arg(SMALL_STACK).status();
     report.holds(run.is_ok_and(|status| status.success()), || {
-        "a deepest search or the table differs or needs a larger stack".into()
+        "a deepest search or trial or the table differs or needs a larger stack".into()
     });
+}
+
+fn on_small_stack() -> bool {
+    groups::deep::on_small_stack() && groups::assign_worked::on_small_stack() && groups::uncrewed_worked::on_small_stack()
 }
 
 fn compare_all() -> bool {
     let start = Instant::now();
     let mut report = Report::default();
     println!("(a) is the plain implementation in tests/src/plain, the second solver is tests/src/second.rs, and for crews onto");
-    println!("vessels tests/src/second_assign.rs");
+    println!("vessels tests/src/second_assign.rs, for sailings that can't be crewed tests/src/second_uncrewed.rs");
     groups::worked::run(&mut report);
     groups::worked_lists::run(&mut report);
     groups::stored::run(&mut report);
@@ -52,6 +56,10 @@ fn compare_all() -> bool {
     groups::assign_worked::run(&mut report);
     groups::assign_generated::run(&mut report);
     groups::assign_faults::run(&mut report);
+    groups::uncrewed_worked::run(&mut report);
+    groups::uncrewed_generated::run(&mut report);
+    groups::uncrewed_limits::run(&mut report);
+    groups::uncrewed_faults::run(&mut report);
     small_stack(&mut report);
     let passed = report.finish();
     println!("{:.1} seconds", start.elapsed().as_secs_f64());
@@ -67,7 +75,7 @@ fn compare_stored() -> bool {
 fn main() -> ExitCode {
     let word = std::env::args().nth(1);
     let compare = match word.as_deref() {
-        Some(SMALL_STACK) => return status(groups::deep::on_small_stack() && groups::assign_worked::on_small_stack()),
+        Some(SMALL_STACK) => return status(on_small_stack()),
         Some(STORED) => compare_stored,
         _ => compare_all,
     };

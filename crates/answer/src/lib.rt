@@ -44,7 +44,7 @@ pub enum SearchAnswer {
 }
 
 // Writes the taken ones of the first columns, numbered from 1, at the front of a list, and gives how many they are.
-fn put_plan(marks: &[u8; 256], columns: usize, plan: &mut [u16]) -> usize
+pub fn put_plan(marks: &[u8; 256], columns: usize, plan: &mut [u16]) -> usize
     requires { ⌜ PlanRoom (now marks) columns (length (now plan)) ⌝ }
     ensures { λ r. ⌜ r ≡ length (takenIn columns (now (marks .entry))) ⌝ }
     ensures { λ _. ⌜ now (plan .exit) ≡ front (map suc (takenIn columns (now (marks .entry)))) (now (plan .entry)) ⌝ }

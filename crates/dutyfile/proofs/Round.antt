@@ -154,11 +154,12 @@ pub record ReadsBack (d : Lists) : Type 0 where
   pub passes : fileFault (render d) ≡ fine
   pub lists : parse (render d) ≡ d
 
+pub reads-back : (d : Lists) → Passing d → ReadsBack d
+reads-back d p = record { passes = file-passes d p; lists = lists-back d p }
+
 pub write-then-read : (d : Lists) (places written : ℕ) → writing d places ≡ accepted written → ReadsBack d
 unfolding writing
-write-then-read d places written e =
-    let p = lists-fine d (both _ _ (accepts _ _ _ e .0) .0) in
-    record { passes = file-passes d p; lists = lists-back d p }
+write-then-read d places written e = reads-back d (lists-fine d (both _ _ (accepts _ _ _ e .0) .0))
 
 -- From a file to lists and back.
 
@@ -217,6 +218,17 @@ columns-pass m n t (e ∷ es) p =
     let f = entry-fine m n t e es p in
     all-pass (f .column) (columns-pass m n (t + e .size) es (f .rest))
 
+-- the lists of a file that passes pass
+pub lists-pass : (s : List ℕ) → Accepted s → listsFault (parse s) ≡ fine
+unfolding listsFault numbersFault countsFault rowsFault parse
+lists-pass s a =
+    let h = a .walked .header in
+    all-pass (rw (length-costs s) (all-pass (within-asks 1 64 _ 2 (h .counts .rows)) (within-asks 1 256 _ 2 (h .counts .columns))))
+    (all-pass (passes 13 (eq-eqb _ _ (length-lengths s ∙ sym (length-costs s))))
+    (all-pass (columns-pass (rowsIn s) (columnsIn s) 0 (entries s) (a .walked .contents))
+    (all-pass (passes 13 (eq-eqb _ _ (length-numbers s (a .walked))))
+    (a .rising))))
+
 module _ (s : List ℕ) (y : Bytes s) (a : Accepted s) where
   after-front : contents (bodiesAt (columnsIn s)) (parse s .costs) (parse s .lengths) ++ parse s .numbers ≡ drop 8 s
   unfolding parse entries
@@ -232,16 +244,6 @@ module _ (s : List ℕ) (y : Bytes s) (a : Accepted s) where
       let h = a .walked .header in
       rw (length-costs s, after-front) (header-bytes s y (h .long) (h .marked))
 
-  lists-pass : listsFault (parse s) ≡ fine
-  unfolding listsFault numbersFault countsFault rowsFault parse
-  lists-pass =
-      let h = a .walked .header in
-      all-pass (rw (length-costs s) (all-pass (within-asks 1 64 _ 2 (h .counts .rows)) (within-asks 1 256 _ 2 (h .counts .columns))))
-      (all-pass (passes 13 (eq-eqb _ _ (length-lengths s ∙ sym (length-costs s))))
-      (all-pass (columns-pass (rowsIn s) (columnsIn s) 0 (entries s) (a .walked .contents))
-      (all-pass (passes 13 (eq-eqb _ _ (length-numbers s (a .walked))))
-      (a .rising))))
-
 -- Writing the lists read from an accepted file passes the writer's tests and gives its bytes, all of them.
 pub record WritesBack (s : List ℕ) : Type 0 where
   pub passes : listsFault (parse s) ≡ fine
@@ -251,4 +253,4 @@ pub read-then-write : (s : List ℕ) → Bytes s → (c l r : ℕ) (found : Shap
 unfolding reading
 read-then-write s y c l r found e =
     let a = file-fine s (both _ _ (accepts _ _ _ e .0) .0) in
-    record { passes = lists-pass s y a; bytes = bytes-back s y a }
+    record { passes = lists-pass s a; bytes = bytes-back s y a }

@@ -1,2 +1,2 @@
 pub mod Read
-mod Loading
+pub mod Loading

@@ -51,7 +51,7 @@ module _ (file : List ℕ) (found : Shape) (costs lengths numbers : List ℕ) (t
   pub parts-statable : Statable (found .rows) (take (found .columns - 0) lengths) (take (found .entries - 0) numbers)
   parts-statable = rw (sub-zero, sub-zero) (t .statable)
 
-  loaded : (l : List ℕ) → length l ≡ 8516 → length costs ≡ 256 →
+  pub loaded : (l : List ℕ) → length l ≡ 8516 → length costs ≡ 256 →
       Holds l (stated (found .rows) (take (found .columns - 0) lengths) (take (found .entries - 0) numbers)) → Loaded file found l costs
   loaded l long wide o =
       let h : Holds l (stated (found .rows) (take (found .columns) lengths) (take (found .entries) numbers)) = rw (sub-zero, sub-zero) at o in

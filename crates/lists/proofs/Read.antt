@@ -16,7 +16,7 @@ use Rattle.dutyfile.specs.declared.Shape.{Shape}
 use Rattle.dutyfile.specs.File.{columnsIn, entries, costOf, sizeOf, parse, instance, sum, shape}
 use Rattle.dutyfile.specs.Faults.{fileFault, roomsFault, reading, contentsFault}
 use Rattle.dutyfile.proofs.Entries.{length-entries}
-use Rattle.dutyfile.proofs.Facts.{Accepted, file-fine, all-pass, contents-small, length-numbers}
+use Rattle.dutyfile.proofs.Facts.{Accepted, file-fine, fine-file, all-pass, contents-small, length-numbers}
 use Rattle.examine.specs.declared.ReadAnswer.{ReadAnswer}
 use Rattle.examine.specs.declared.ReadAnswer.the-variants.{Accepted as accept, Refused as refuse}
 use Rattle.examine.specs.Answer.{readOutcome}
@@ -35,6 +35,15 @@ pub record Listed (file : List ℕ) (found : Shape) (costs lengths numbers : Lis
   pub matrix-is : stated (found .rows) (take (found .columns) lengths) (take (found .entries) numbers) ≡ instance (parse file) .matrix
   pub wide : width (instance (parse file) .matrix) ≡ found .columns
   pub cheap : total (width (instance (parse file) .matrix)) (λ j. getD (parse file .costs) j 0) ≤ costLimit
+
+-- an accepted file's numbers of rows, columns and row numbers, a table of its costs, and lists whose first places are its lists
+pub record Fronts (file : List ℕ) (found : Shape) (costs lengths numbers : List ℕ) : Type 0 where
+  pub passes : fileFault file ≡ fine
+  pub shape-is : shape file ≡ found
+  pub costs-is : costs ≡ table 256 (λ j. getD (parse file .costs) j 0)
+  pub costs-front : take (found .columns) costs ≡ parse file .costs
+  pub lengths-front : take (found .columns) lengths ≡ parse file .lengths
+  pub numbers-front : take (found .entries) numbers ≡ parse file .numbers
 
 -- what an accepted file's lists hold
 record Sizes (s : List ℕ) : Type 0 where
@@ -68,6 +77,25 @@ reading-local s = go (fileFault s) refl
     go fine e = rw (has-room s (file-fine s e))
     go (fault k) e = refl
 
+-- an accepted file, and lists with its costs, its body lengths and its row numbers
+pub accepted-listed : (s : List ℕ) → Accepted s → (costs lengths numbers : List ℕ) → costs ≡ table 256 (λ j. getD (parse s .costs) j 0)
+    → take (shape s .columns) lengths ≡ parse s .lengths → take (shape s .entries) numbers ≡ parse s .numbers
+    → Listed s (shape s) costs lengths numbers
+unfolding shape
+accepted-listed s a costs lengths numbers c d k =
+    let z : Sizes s = sizes s a in
+    record {
+      passes = fine-file s a;
+      shape-is = refl;
+      columns = z .columns;
+      entries = z .entries;
+      costs-is = c;
+      statable = rw (d, k) (file-statable s a);
+      matrix-is = rw (d, k) (file-is s a);
+      wide = file-wide s a;
+      cheap = file-cheap s a;
+    }
+
 -- a list at the front of zeros
 front-table : (new : List ℕ) → length new ≤ 256 → front new (replicate 256 0) ≡ table 256 (λ j. getD new j 0)
 unfolding front
@@ -96,27 +124,28 @@ module _ (s : List ℕ) (r : ReadAnswer) where
       unfolding readOutcome
       filled-is new old now h = h ∙ fills found new old (rw e)
 
-      pub file-listed : (old old′ old″ : List ℕ) → Places old old′ old″ → (costs lengths numbers : List ℕ) →
-          costs ≡ filled (readOutcome r) (parse s .costs) old → lengths ≡ filled (readOutcome r) (parse s .lengths) old′ → numbers ≡ filled (readOutcome r) (parse s .numbers) old″ →
-          Listed s found costs lengths numbers
-      unfolding shape
-      file-listed old old′ old″ places costs lengths numbers h l n =
-          let a : Accepted s = file-fine s (tells .0) in
-          let z : Sizes s = sizes s a in
-          let c : costs ≡ table 256 (λ j. getD (parse s .costs) j 0) =
-          filled-is _ _ _ h ∙ rw (places .costs-zero) (front-table (parse s .costs) (omega (arith, z .costs-long, z .columns))) in
-          let d : take (columnsIn s) lengths ≡ parse s .lengths =
-          ap (take (columnsIn s)) (filled-is _ _ _ l) ∙ front-take (parse s .lengths) old′ (columnsIn s) (z .lengths-long) in
-          let k : take (sum (parse s .lengths)) numbers ≡ parse s .numbers =
-          ap (take (sum (parse s .lengths))) (filled-is _ _ _ n) ∙ front-take (parse s .numbers) old″ (sum (parse s .lengths)) (z .numbers-long) in
-          rw (sym (tells .1)) (record {
-            passes = tells .0;
-            shape-is = refl;
-            columns = z .columns;
-            entries = z .entries;
-            costs-is = c;
-            statable = rw (d, k) (file-statable s a);
-            matrix-is = rw (d, k) (file-is s a);
-            wide = file-wide s a;
-            cheap = file-cheap s a;
-          })
+      filled-front : (new old now : List ℕ) (n : ℕ) → now ≡ filled (readOutcome r) new old → length new ≡ n → take n now ≡ new
+      filled-front new old now n h k = ap (take n) (filled-is new old now h) ∙ front-take new old n k
+
+      module _ (old old′ old″ : List ℕ) (places : Places old old′ old″) (costs lengths numbers : List ℕ)
+          (h : costs ≡ filled (readOutcome r) (parse s .costs) old) (l : lengths ≡ filled (readOutcome r) (parse s .lengths) old′)
+          (n : numbers ≡ filled (readOutcome r) (parse s .numbers) old″) where
+        pub file-fronts : Fronts s found costs lengths numbers
+        unfolding shape
+        file-fronts =
+            let z : Sizes s = sizes s (file-fine s (tells .0)) in
+            rw (sym (tells .1)) (record {
+              passes = tells .0;
+              shape-is = refl;
+              costs-is = filled-is _ _ _ h ∙ rw (places .costs-zero) (front-table (parse s .costs) (omega (arith, z .costs-long, z .columns)));
+              costs-front = filled-front (parse s .costs) old costs (columnsIn s) h (z .costs-long);
+              lengths-front = filled-front (parse s .lengths) old′ lengths (columnsIn s) l (z .lengths-long);
+              numbers-front = filled-front (parse s .numbers) old″ numbers (sum (parse s .lengths)) n (z .numbers-long);
+            })
+
+        pub file-listed : Listed s found costs lengths numbers
+        file-listed =
+            let f = file-fronts in
+            let is = sym (f .shape-is) in
+            rw is
+            (accepted-listed s (file-fine s (f .passes)) costs lengths numbers (f .costs-is) (rw is at (f .lengths-front)) (rw is at (f .numbers-front)))

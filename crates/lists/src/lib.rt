@@ -19,20 +19,25 @@ pub fn no_costs() -> [u32; 256]
     [0u32; 256]
 }
 
-fn no_lengths() -> [u16; 256]
+pub fn no_lengths() -> [u16; 256]
     ensures { λ r. ⌜ r ≡ replicate 256 0 ⌝ }
 {
     [0u16; 256]
 }
 
-fn no_numbers() -> [u8; 4096]
+pub fn no_numbers() -> [u8; 4096]
     ensures { λ r. ⌜ r ≡ replicate 4096 0 ⌝ }
 {
     [0u8; 4096]
 }
 
 // Reads a file into such places, which have room for every file: it is refused by its own tests alone.
-fn read_lists(file: &[u8], costs: &mut [u32], lengths: &mut [u16], numbers: &mut [u8]) -> ReadAnswer
+pub fn read_lists(
+    file: &[u8],
+    costs: &mut [u32],
+    lengths: &mut [u16],
+    numbers: &mut [u8],
+) -> ReadAnswer
     requires { ⌜ Places (now costs) (now lengths) (now numbers) ⌝ }
     ensures { λ r. ⌜ readOutcome r ≡ unless (fileFault (now (file .entry))) (shape (now (file .entry))) ⌝ }
     ensures { λ r. ⌜ now (costs .exit) ≡ filled (readOutcome r) (parse (now (file .entry)) .costs) (now (costs .entry)) ⌝ }

@@ -2,7 +2,7 @@
 mod Sums
 mod Members
 -- of the loops that build the list,
-mod Putting
+pub mod Putting
 mod Covered
 mod Collected
 -- of the list that is built,

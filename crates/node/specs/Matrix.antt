@@ -48,6 +48,10 @@ price p costs X = total (width p) (λ j. on (X j) (getD costs j 0))
 abbrev pub IsPlan : Matrix → (ℕ → Bool) → Type 0
 IsPlan p X = (i : ℕ) → i < p .rows → count p i X ≡ 1
 
+-- the choice that a list of column numbers, counted from 1, names
+abbrev pub named : List ℕ → ℕ → Bool
+named js j = member (suc j) js
+
 -- A list of columns: the choice that it is, and whether it shows an allowed choice of value c, rising and with columns of the
 -- matrix only.
 abbrev pub chosen : List ℕ → ℕ → Bool

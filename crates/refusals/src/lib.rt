@@ -38,6 +38,8 @@ pub enum Refusal {
     TableSize,
     // A cost in a table is out of range.
     TableCost,
+    // More columns than a call that appends some takes.
+    TrialColumns,
 }
 
 // What a test, or a sequence of tests, comes to.
@@ -68,5 +70,6 @@ pub fn number(why: Refusal) -> u32
         Refusal::Absent => 15,
         Refusal::TableSize => 16,
         Refusal::TableCost => 17,
+        Refusal::TrialColumns => 18,
     }
 }

@@ -3,18 +3,18 @@
 use mathlib.Core.Path.{_≡_, refl, sym, ap, _∙_}
 use mathlib.Core.Bool.{Bool, true, false, _&&_, true≢false}
 use mathlib.Core.List.{List}
-use Prim.Native.Nat.{ℕ, _+_, _*_, _≤_, _<_}
+use Prim.Native.Nat.{ℕ, suc, _+_, _-_, _*_, _≤_, _<_}
 use native.Mathlib.Omega.{arith}
 use lib.ListN.{length, getD}
 use lib.Dec.{ltb}
 use borrow.Author.Tests.{eqb-true, lt-ltb}
 use Rattle.node.specs.declared.Node.{Node}
-use Rattle.node.specs.Lists.{keep, on, total}
-use Rattle.node.specs.Matrix.{Matrix, width, covers, meets, count, IsPlan, chosen, columns}
-use Rattle.node.specs.Stored.{FitsNode}
+use Rattle.node.specs.Lists.{keep, member, on, total}
+use Rattle.node.specs.Matrix.{Matrix, width, body, covers, meets, count, IsPlan, chosen, columns}
+use Rattle.node.specs.Stored.{FitsNode, Small}
 use Rattle.node.specs.Node.{mark, isFree, isTaken, isOpen, costAt, root}
 use Rattle.rules.specs.Identity.{Completion, rest}
-use Rattle.node.proofs.Members.{and-both, not-so, at-table}
+use Rattle.node.proofs.Members.{and-both, not-so, at-table, member-at}
 use Rattle.node.proofs.Shares.{Shared, meets-at, meets-of}
 use Rattle.rules.proofs.Sums.{total-add, total-mul, total-zero, total-two, total-le, total-one, total-ones, total-swap}
 use Rattle.rules.proofs.Sums.{length-keep}
@@ -137,11 +137,20 @@ module _ (p : Matrix) where
     pub root-comp : (X : ℕ → Bool) → IsPlan p X → Completion p (root p cs) X
     root-comp X h = record { plan = h; agrees = λ k l f. absurd (true≢false (sym (root-free k l) ∙ f)) }
 
-  -- a plan has no more columns than there are rows, if each column covers a row
-  pub plan-short : ((j : ℕ) → j < width p → (i : ℕ) × (i < p .rows) × (covers p i j ≡ true))
-      → (js : List ℕ) → keep (chosen js) (columns p) ≡ js → IsPlan p (chosen js) → length js ≤ p .rows
+  -- each column covers a row
+  some-row : Small p → (j : ℕ) → j < width p → (i : ℕ) × (i < p .rows) × (covers p i j ≡ true)
+  unfolding covers
+  some-row s j l =
+      let r : ℕ = getD (body p j) 0 0 in
+      let m : member r (body p j) ≡ true = member-at (body p j) 0 (s .covering j l) in
+      let w = s .numbered j r l m in
+      let e : suc (r - 1) ≡ r = omega (arith, w .0) in
+      (r - 1, omega (arith, w .0, w .1), rw e m)
+
+  -- so a plan has no more columns than there are rows
+  pub plan-short : Small p → (js : List ℕ) → keep (chosen js) (columns p) ≡ js → IsPlan p (chosen js) → length js ≤ p .rows
   unfolding count
-  plan-short h js e s =
+  plan-short small js e s =
       let f : ℕ → ℕ → ℕ = λ i j. on (chosen js j) (on (covers p i j) 1) in
       omega (
         arith,
@@ -150,5 +159,5 @@ module _ (p : Matrix) where
         total-swap (width p) (p .rows) f,
         total-ones (p .rows) (λ i. total (width p) (f i)) s,
         total-le (width p) (λ j. on (chosen js j) 1) (λ j. total (p .rows) (λ i. f i j))
-            (λ j l. let r = h j l in rw (r .2) at (total-one (p .rows) (r .0) (λ i. f i j) (r .1))),
+            (λ j l. let r = some-row small j l in rw (r .2) at (total-one (p .rows) (r .0) (λ i. f i j) (r .1))),
       )

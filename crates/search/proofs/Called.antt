@@ -1,21 +1,17 @@
 -- The public call: a file is refused by its own tests, then by the plan list's room, the node limit and the lists of columns; and
 -- otherwise what is given is the answer of the rules, of which demand 3 is proved.
 use mathlib.Core.Path.{_≡_, sym, _∙_}
-use mathlib.Core.Bool.{true}
 use mathlib.Core.List.{List}
-use Prim.Native.Nat.{ℕ, suc, _-_, _≤_, _<_}
+use Prim.Native.Nat.{ℕ, _≤_}
 use native.Mathlib.Omega.{arith}
-use lib.ListN.{getD}
 use borrow.Author.Tests.{leb-true}
 use Rattle.refusals.specs.Refusals.{fine, fault, _then_, accepted, refused, front, filled}
 use Rattle.refusals.specs.declared.Refusal.{Refusal}
 use Rattle.refusals.proofs.Laws.{both, asked, stops-at, goes-on, unless-fine, unless-fault, fills}
-use Rattle.node.specs.Lists.{member}
-use Rattle.node.specs.Matrix.{Matrix, width, body, covers, Shows}
+use Rattle.node.specs.Matrix.{Matrix, width, Shows}
 use Rattle.node.specs.declared.Node.{Node}
 use Rattle.node.specs.Node.{root}
 use Rattle.node.specs.Stored.{matrixIn, Small}
-use Rattle.node.proofs.Members.{member-at}
 use Rattle.rules.specs.Search.{Answer, plan, shownBy}
 use Rattle.rules.specs.declared.Goal.{Goal}
 use Rattle.rules.specs.declared.Forced.{Forced}
@@ -44,16 +40,6 @@ use Rattle.search.specs.Requests.{requestFault, callFaultWith, faultWith
 use Rattle.search.specs.Goals.{answerFor, searchingFor, listFor, DemandFor}
 use Rattle.search.proofs.Listed.{numbers, listed}
 use Rattle.search.proofs.Demanded.{demanded}
-
--- each column covers a row
-some-row : (p : Matrix) → Small p → (j : ℕ) → j < width p → (i : ℕ) × (i < p .rows) × (covers p i j ≡ true)
-unfolding covers
-some-row p s j l =
-    let r : ℕ = getD (body p j) 0 0 in
-    let m : member r (body p j) ≡ true = member-at (body p j) 0 (s .covering j l) in
-    let w = s .numbered j r l m in
-    let e : suc (r - 1) ≡ r = omega (arith, w .0) in
-    (r - 1, omega (arith, w .0, w .1), rw e m)
 
 -- demand 3 of the answer that is seen
 abbrev Demanded : Goal → List ℕ → ℕ → Requests → SearchAnswer → List ℕ → Type 0
@@ -131,7 +117,7 @@ module _ (g : Goal) (s : List ℕ) (limit places : ℕ) (q : Requests) where
               let e : shownBy (answerFor g s limit q) ≡ plan (done .tally .cost) js = rw answers at (kept-shown (found .columns) done h) in
               let x : Shows p (Granted p q) (valueFor g p (parse s .costs)) (done .tally .cost) js = demand .shown _ _ e in
               let r : found .rows ≤ places = leb-true _ _ (asked _ 10 (both _ _ fits-call .0)) in
-              omega (arith, plan-short p (some-row p small) js (x .listed) (x .ok .ok), rw (w .file .is) at (w .file .rows-is), r);
+              omega (arith, plan-short p small js (x .listed) (x .ok .ok), rw (w .file .is) at (w .file .rows-is), r);
         }
 
         module _ (r : SearchAnswer) (told : searchOutcome r ≡ accepted (valuesOf (solvedAnswer (found .columns) done))) where

@@ -19,6 +19,7 @@ ghost use Rattle.rules.specs.Longest.{dearest, longest};
 ghost use Rattle.rules.specs.Requests.{Requests, asking, begun, Granted};
 ghost use Rattle.dutyfile.specs.File.{parse, instance};
 ghost use Rattle.answer.specs.Answer.{searchOutcome, seen};
+ghost use Rattle.search.specs.Searching.{callFault};
 ghost use Rattle.search.specs.Requests.{requestFault, callFaultWith, searchingWith, planListWith, longestSearchingWith};
 ghost use Rattle.search.specs.Requests.{longestListWith};
 ghost use Rattle.search.specs.Goals.{searchingFor, listFor, DemandFor};
@@ -36,9 +37,9 @@ fn check_requests(found: Shape, agreed: &[u16], absent: &[u16]) -> Check
     Check::Passed
 }
 
-// 10 for a plan list of so many places, then 11, then 14 and 15.
-fn check_call(found: Shape, places: usize, limit: u32, agreed: &[u16], absent: &[u16]) -> Check
-    ensures { λ r. ⌜ faultOf r ≡ callFaultWith found places limit (asking (now (agreed .entry)) (now (absent .entry))) ⌝ }
+// 10 for a list of so many places, then 11.
+pub fn check_call(found: Shape, places: usize, limit: u32) -> Check
+    ensures { λ r. ⌜ faultOf r ≡ callFault found places limit ⌝ }
 {
     if places < found.rows {
         return Check::Failed(Refusal::Room);
@@ -49,7 +50,18 @@ fn check_call(found: Shape, places: usize, limit: u32, agreed: &[u16], absent: &
     if limit > 1000000 {
         return Check::Failed(Refusal::NodeLimit);
     }
-    check_requests(found, agreed, absent)
+    Check::Passed
+}
+
+// 10, then 11, then 14 and 15.
+fn check_call_with(found: Shape, places: usize, limit: u32, agreed: &[u16], absent: &[u16]) -> Check
+    ensures { λ r. ⌜ faultOf r ≡ callFaultWith found places limit (asking (now (agreed .entry)) (now (absent .entry))) ⌝ }
+{
+    let first = check_call(found, places, limit);
+    match first {
+        Check::Failed(why) => Check::Failed(why),
+        Check::Passed => check_requests(found, agreed, absent),
+    }
 }
 
 // Searches a duty file for a goal, as both calls do.
@@ -71,7 +83,7 @@ fn search_for(
     match found {
         ReadAnswer::Refused(why) => SearchAnswer::Refused(why),
         ReadAnswer::Accepted(shape) => {
-            let test = check_call(shape, plan.len(), limit, agreed, absent);
+            let test = check_call_with(shape, plan.len(), limit, agreed, absent);
             match test {
                 Check::Failed(why) => SearchAnswer::Refused(why),
                 Check::Passed => {

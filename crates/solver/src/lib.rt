@@ -22,7 +22,7 @@ pub struct Solved {
 }
 
 // Searches a matrix for a goal, from a first node that is alive.
-fn search_live(goal: Goal, first: Node, matrix: &[u16], limit: u32) -> Solved
+pub fn search_live(goal: Goal, first: Node, matrix: &[u16], limit: u32) -> Solved
     requires { ⌜ Searchable goal (now matrix) first limit ⌝ }
     ensures { λ r. ⌜ (let p : Matrix = matrixIn (now (matrix .entry)) in solvedAnswer (width p) r ≡ answer (searchFor goal p) p (live first) limit) ⌝ }
 {

@@ -8,7 +8,7 @@ use lib.ListN.{length}
 use Rattle.refusals.specs.Refusals.{fine, unless}
 use Rattle.refusals.proofs.Laws.{both, accepts}
 use Rattle.node.specs.Lists.{keep, upto}
-use Rattle.node.specs.Matrix.{Matrix, width, chosen}
+use Rattle.node.specs.Matrix.{Matrix, width, chosen, named}
 use Rattle.node.specs.Stored.{FitsNode}
 use Rattle.node.proofs.Members.{keep-upto}
 use Rattle.node.specs.declared.Node.{Node}
@@ -26,7 +26,7 @@ use Rattle.dutyfile.specs.File.{Lists, parse, render, instance, shape}
 use Rattle.dutyfile.specs.Faults.{contentsFault, reading, writing}
 use Rattle.dutyfile.proofs.Facts.{Accepted, file-fine, contents-small}
 use Rattle.dutyfile.proofs.Round.{write-then-read}
-use Rattle.verify.specs.Verdict.{named, checking}
+use Rattle.verify.specs.Verdict.{checking}
 use Rattle.verify.proofs.Meaning.{verdict-not-once}
 use Rattle.matrix.proofs.Accepted.{file-small}
 use Rattle.reduce.specs.declared.Bound.{Bound}

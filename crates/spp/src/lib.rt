@@ -6,9 +6,10 @@ use flat::SppReduced;
 use flat::SppShape;
 use flat::SppWritten;
 use flat_assign::SppAssigned;
+use flat_uncrewed::SppUncrewed;
 ghost use mathlib.Core.Path.{_≡_};
 ghost use lib.ListN.{length};
-ghost use Rattle.refusals.specs.Refusals.{filled};
+ghost use Rattle.refusals.specs.Refusals.{accepted, filled};
 ghost use Rattle.node.specs.Matrix.{Matrix, Instance, price};
 ghost use Rattle.node.specs.Node.{root};
 ghost use Rattle.rules.specs.Tree.{sum};
@@ -20,9 +21,13 @@ ghost use Rattle.dutyfile.specs.Faults.{reading, writing};
 ghost use Rattle.verify.specs.Verdict.{checking};
 ghost use Rattle.reduce.specs.Answer.{reducing, reducedCosts, usedRows};
 ghost use Rattle.search.specs.Requests.{searchingWith, planListWith, longestSearchingWith, longestListWith};
+ghost use Rattle.trials.specs.Trials.{Finding};
+ghost use Rattle.trials.specs.Told.{Told};
+ghost use Rattle.uncrewed.specs.Answer.{seen, uncrewing, uncrewedList};
 ghost use Rattle.assign.specs.Answer.{assigning, vesselList};
 ghost use Rattle.assign.specs.Assigned.{Assigned};
 ghost use Rattle.flat_assign.specs.Struct.{assignedOf, outcomeIn};
+ghost use Rattle.flat_uncrewed.specs.Struct.{uncrewedOf, uncrewedIn};
 ghost use Rattle.flat.specs.Flat.{shapeOf, writtenOf, checkedOf, reducedOf, answerOf, seenIn};
 
 // Reads a duty file: m, n and t, with the front of each list filled; or a refusal, with every list as it was.
@@ -132,4 +137,17 @@ pub extern "C" fn spp_core_assign(
 {
     let found = assign::assign(crews, vessels, *table, answer);
     flat_assign::flat_assigned(found)
+}
+
+// Finds the smallest row k such that no columns that share no row cover the rows 1 to k, by trials within the node limit each: k, with columns
+// that cover the rows before it at the front of the list; or that a plan exists, the row whose trial was stopped without a plan, or a
+// refusal, with the list as it was.
+#[no_mangle]
+pub extern "C" fn spp_core_uncrewed(file: &[u8], node_limit: u32, shown: &mut [u16]) -> SppUncrewed
+    ensures { λ r. ⌜ r ≡ uncrewedOf (uncrewing (now (file .entry)) «node_limit» (length (now (shown .entry)))) ⌝ }
+    ensures { λ _. ⌜ now (shown .exit) ≡ filled (uncrewing (now (file .entry)) «node_limit» (length (now (shown .entry)))) (uncrewedList (now (file .entry)) «node_limit») (now (shown .entry)) ⌝ }
+    ensures { λ r. ⌜ ((x : Finding) → seen (uncrewedIn r) (now (shown .exit)) ≡ accepted x → Told (parse (now (file .entry))) «node_limit» x) ⌝ }
+{
+    let found = uncrewed::uncrewed(file, node_limit, shown);
+    flat_uncrewed::flat_uncrewed(found)
 }

@@ -11,12 +11,12 @@ use lib.ListN.{getD}
 use Rattle.refusals.specs.Refusals.{fine, accepted, refused, unless}
 use Rattle.refusals.proofs.Laws.{stops-at, goes-on, passes, fails, unless-fine, unless-fault, refuses}
 use Rattle.node.specs.Lists.{on}
-use Rattle.node.specs.Matrix.{covers, count, price}
+use Rattle.node.specs.Matrix.{covers, count, price, named}
 use Rattle.dutyfile.specs.File.{rowsIn, columnsIn, parse, instance, shape}
 use Rattle.dutyfile.specs.Faults.{rising, fileFault}
 use Rattle.dutyfile.proofs.Columns.{file-width}
 use Rattle.verify.specs.Counts.{noneCovered, countedAll, tally}
-use Rattle.verify.specs.Verdict.{named, plan, notOnce, lowest, verdict, checking}
+use Rattle.verify.specs.Verdict.{plan, notOnce, lowest, verdict, checking}
 use Rattle.verify.proofs.Sums.{tally-total}
 use Rattle.verify.proofs.Counting.{counted-all-at}
 use Rattle.verify.proofs.Walk.{fileMatrix, Offered, body-rises, none-at}

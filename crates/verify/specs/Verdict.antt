@@ -3,17 +3,12 @@ use mathlib.Core.Bool.{Bool, cond}
 use mathlib.Core.List.{List}
 use Prim.Native.Nat.{ℕ, zero, suc}
 use lib.Dec.{eqb}
-use Rattle.node.specs.Lists.{member}
-use Rattle.node.specs.Matrix.{Matrix, count, price}
+use Rattle.node.specs.Matrix.{Matrix, count, price, named}
 use Rattle.refusals.specs.Refusals.{ask, _then_, Outcome, accepted, refused, unless, numberOf}
 use Rattle.dutyfile.specs.File.{columnsIn, parse, instance}
 use Rattle.dutyfile.specs.Faults.{rising, fileFault}
 use Rattle.verify.specs.declared.CheckAnswer.{CheckAnswer}
 use Rattle.verify.specs.declared.CheckAnswer.the-variants.{Plan, NotOnce, Refused}
-
--- the choice that a list of column numbers, counted from 1, names
-abbrev pub named : List ℕ → ℕ → Bool
-named js j = member (suc j) js
 
 -- a plan at a cost (01: price), or a row's number, counted from 1, and how often it is covered
 pub data Verdict : Type 0 where

@@ -4,7 +4,7 @@ use crate::answers::{Checked, Shape, Written};
 
 const MOST_ROWS: usize = 64;
 const MOST_COLUMNS: usize = 256;
-const MOST_ENTRIES: usize = 4096;
+pub(super) const MOST_ENTRIES: usize = 4096;
 const MOST_COST: u32 = 1_000_000;
 
 /// The contents of an accepted file.

@@ -1,4 +1,4 @@
-//! The rules of 01 and of 02, P1, P2 and P5 in plain code: the same calls as the static library, on slices.
+//! The rules of 01 and of 02, P1, P2, P5 and P6 in plain code: the same calls as the static library, on slices.
 
 mod assign;
 mod file;
@@ -8,8 +8,10 @@ mod node;
 mod reduce;
 mod requests;
 mod search;
+mod uncrewed;
 
 pub use assign::assign;
 pub use file::{check, read, write};
 pub use reduce::reduce;
 pub use search::{search, search_with, tree, Tree};
+pub use uncrewed::{trial, uncrewed};

@@ -10,7 +10,7 @@ use crate::answers::{Answer, BEST, NONE, STOPPED};
 use crate::goal::Goal;
 use crate::requests::Requests;
 
-const MOST_NODES: u32 = 1_000_000;
+pub(super) const MOST_NODES: u32 = 1_000_000;
 
 /// Stands for a penalty larger than any number; costs are at most 1,000,000.
 const ABOVE_ANY: u32 = u32::MAX;
@@ -177,7 +177,7 @@ pub struct Tree {
 }
 
 /// Walks the tree of the file's columns.
-fn walk(duties: &Duties, goal: Goal, requests: Requests, limit: u32) -> Tree {
+pub(super) fn walk(duties: &Duties, goal: Goal, requests: Requests, limit: u32) -> Tree {
     let matrix = &Matrix::new(duties);
     let (nodes, stopped, root_bound, kept, depth, deepest) = (0, false, 0, None, 0, 0);
     let mut walk = Walk { matrix, goal, requests, limit, nodes, stopped, root_bound, kept, depth, deepest };

@@ -32,7 +32,7 @@ rooted c =
     record {
       costs = _;
       file = loaded (l .before .before);
-      fits = passed (l .check-call .ensures) (t .enum-told .given .1);
+      fits = passed (l .check-call-with .ensures) (t .enum-told .given .1);
       is = c .root-node .ensures;
     }
 
@@ -51,8 +51,8 @@ enum-known-found c = search needs
 enum-known-found-2 : tie.Need-enum-known-found-2
 enum-known-found-2 c = search needs
 
-check-call-requires : tie.Need-check-call-requires
-check-call-requires c κs = search needs
+check-call-with-requires : tie.Need-check-call-with-requires
+check-call-with-requires c κs = search needs
 
 enum-known-test : tie.Need-enum-known-test
 enum-known-test c = search needs
@@ -96,7 +96,7 @@ returns-2 : tie.Need-returns-2
 unfolding searchOutcome filled
 returns-2 c =
     let l = c .before .before .before in
-    (refused-call _ _ _ _ _ _ _ _ (loaded (l .before .before)) _ (failed (l .check-call .ensures) _ (c .before .test .given .1)), (refl, refused-demand _ _ _ _ _ _))
+    (refused-call _ _ _ _ _ _ _ _ (loaded (l .before .before)) _ (failed (l .check-call-with .ensures) _ (c .before .test .given .1)), (refl, refused-demand _ _ _ _ _ _))
 
 same-length : tie.Need-same-length
 same-length c = search needs
@@ -124,7 +124,7 @@ search-for-spec =
     read-matrix-requires
     enum-known-found
     enum-known-found-2
-    check-call-requires
+    check-call-with-requires
     enum-known-test
     enum-told
     slice-aggregate-root-node

@@ -53,17 +53,6 @@ fn of_kind(kind: &Kind, random: &mut Random) -> Vec<(f64, f64)> {
     times
 }
 
-/// The stack of one call. The table is dense.
-fn stack_line() {
-    let (table, runs) = (Table::new(MOST, MOST, |crew, vessel| (1 + crew * vessel) as u32), stack::REPEATS);
-    let (engine, differ) = stack::most_used(assign_by_engine, &table);
-    let (base, base_differ) = stack::most_used(assign_by_plain, &table);
-    let [engine, base] = [engine, base].map(|bytes| bytes as f64 / 1024.0);
-    let most = differ.max(base_differ);
-    println!("\nThe most stack written to by one call, less what a thread uses that does nothing: {engine:.0} KiB by the engine, {base:.0} KiB");
-    println!("by (a). The largest of {runs} runs of each; the runs of one call differ by {most} bytes at most.\n");
-}
-
 pub fn table() {
     println!("## Crews onto vessels\n");
     println!("16 crews and 16 vessels, {TABLES} tables of each kind. The time of a table is the median of {REPEATS} runs of one call; the lines give");
@@ -74,5 +63,6 @@ pub fn table() {
     let times: Vec<(f64, f64)> = KINDS.iter().flat_map(|kind| of_kind(kind, &mut random)).collect();
     let (engine, base) = times.iter().copied().unzip();
     line("all", &Runs::new(engine), &Runs::new(base), times.len());
-    stack_line();
+    let dense = Table::new(MOST, MOST, |crew, vessel| (1 + crew * vessel) as u32);
+    stack::of_call(assign_by_engine, assign_by_plain, &dense);
 }

@@ -13,6 +13,7 @@ mod processes;
 mod runs;
 mod solvers;
 mod stack;
+mod uncrewed;
 
 use std::fs;
 
@@ -55,4 +56,5 @@ fn main() {
     growth::table();
     stack::table();
     assign::table();
+    uncrewed::table();
 }

@@ -9,7 +9,7 @@ use spp_tests::goal::Goal;
 use spp_tests::{engine, plain};
 
 const SIZE: usize = 64 << 20;
-pub const REPEATS: usize = 3;
+const REPEATS: usize = 3;
 const LIMIT: u32 = 1_000_000;
 const PATTERN: u64 = 0xA5C3_96F0_1E2D_4B87;
 
@@ -71,10 +71,20 @@ fn used<T>(start: Start, task: &T) -> usize {
 }
 
 /// The most stack of some runs beyond what an idle thread uses, and how far the runs differ.
-pub fn most_used<T>(start: Start, task: &T) -> (usize, usize) {
+fn most_used<T>(start: Start, task: &T) -> (usize, usize) {
     let runs = [0; REPEATS].map(|_| used(start, task) - used(nothing, task));
     let (least, most) = (runs.into_iter().min().unwrap_or(0), runs.into_iter().max().unwrap_or(0));
     (most, most - least)
+}
+
+/// Prints the stack of one call by the engine and by (a).
+pub fn of_call<T>(by_engine: Start, by_plain: Start, task: &T) {
+    let (engine, differ) = most_used(by_engine, task);
+    let (base, base_differ) = most_used(by_plain, task);
+    let [engine, base] = [engine, base].map(|bytes| bytes as f64 / 1024.0);
+    let most = differ.max(base_differ);
+    println!("\nThe most stack written to by one call, less what a thread uses that does nothing: {engine:.0} KiB by the engine, {base:.0} KiB");
+    println!("by (a). The largest of {REPEATS} runs of each; the runs of one call differ by {most} bytes at most.\n");
 }
 
 /// Prints a line; gives how far its runs differ.

@@ -1,0 +1,2 @@
+mod Appending
+mod Made
