@@ -3,10 +3,9 @@ use mathlib.Core.Path.{_≡_, refl, ap, sym, _∙_}
 use mathlib.Core.Bool.{Bool, true, false}
 use mathlib.Core.List.{List, _++_}
 use Prim.Native.Nat.{ℕ, suc, _+_, _-_, _≤_, _<_}
-use native.Mathlib.Nat.{sub-zero}
 use native.Mathlib.Omega.{arith}
 use lib.Dec.{ltb}
-use lib.ListN.{length, getD, take, drop, replicate, length-append, length-replicate, length-take, List·getD-append, List·getD-eq-default}
+use lib.ListN.{length, getD, take, drop, replicate, length-append, length-replicate, List·getD-append, List·getD-eq-default}
 use lib.Seq.{sets, sets-eq, length-sets, take-at, length-take-le, getD-append-add, getD-drop}
 use borrow.Author.Tests.{ltb-true, ltb-false}
 use Rattle.node.specs.Lists.{from, table}
@@ -31,7 +30,7 @@ use Rattle.solver.specs.declared.Solved.{Solved}
 use Rattle.solver.specs.Solved.{Searchable, solvedAnswer}
 use Rattle.search.specs.Searching.{fileAnswer}
 use Rattle.trials.specs.Trials.{extended, trial}
-use Rattle.trials.proofs.Extended.{Extendable, extended-passing, sum-extended, length-extended}
+use Rattle.trials.proofs.Extended.{extended-passing, sum-extended, length-extended}
 use Rattle.trial.specs.Ready.{held, Places, Ready}
 
 -- a list in which some places are set, n places before them

@@ -1,17 +1,17 @@
 -- A matrix with a column appended for each row above k: its plans are the choices whose columns share no row and cover the first k rows,
 -- completed by the appended columns of the rows that they leave.
-use mathlib.Core.Path.{_≡_, refl, ap, sym, _∙_}
+use mathlib.Core.Path.{_≡_, refl, _∙_}
 use mathlib.Core.Bool.{Bool, true, false, cond, _||_}
-use mathlib.Core.List.{List, [], _∷_, _++_}
+use mathlib.Core.List.{[], _∷_, _++_}
 use Prim.Native.Nat.{ℕ, zero, suc, _+_, _-_, _≤_, _<_}
 use native.Mathlib.Nat.{add-zero}
 use native.Mathlib.Omega.{arith}
 use lib.Dec.{eqb, ltb}
-use lib.ListN.{length, getD, length-append, length-map, List·getD-append}
+use lib.ListN.{length-append, length-map, List·getD-append}
 use lib.Seq.{getD-append-add}
 use borrow.Author.Tests.{eq-eqb, ne-eqb, eqb-true, eqb-false, lt-ltb, le-ltb, ltb-true, ltb-false}
-use Rattle.node.specs.Lists.{member, from, on, total}
-use Rattle.node.specs.Matrix.{Matrix, width, body, covers, count, IsPlan}
+use Rattle.node.specs.Lists.{member, on, total}
+use Rattle.node.specs.Matrix.{Matrix, width, covers, count, IsPlan}
 use Rattle.node.proofs.Members.{length-from}
 use Rattle.node.proofs.Parts.{map-at}
 use Rattle.rules.proofs.Sums.{total-cong, total-zero, total-at}

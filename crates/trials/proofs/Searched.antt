@@ -1,32 +1,35 @@
 -- What a trial's answer says of the file: none means that no choice covers the first k rows, and a plan shown covers them without the
 -- appended columns.
 use mathlib.Core.Path.{_≡_, refl, ap, sym, _∙_}
-use mathlib.Core.Bool.{Bool, true, false, cond, _&&_}
+use mathlib.Core.Bool.{Bool, true, false, cond}
 use mathlib.Core.List.{List, [], _∷_, _++_, map, append-nil}
-use Prim.Native.Nat.{ℕ, zero, suc, _+_, _-_, _≤_, _<_}
+use Prim.Native.Nat.{ℕ, zero, suc, _+_, _≤_, _<_}
 use native.Mathlib.Nat.{zero-add, add-zero}
 use native.Mathlib.Omega.{arith}
 use lib.Dec.{eqb, ltb}
 use lib.ListN.{length, length-map}
 use borrow.Author.Tests.{eq-eqb, ne-eqb, eqb-true, eqb-false, lt-ltb, le-leb, le-ltb}
+use Rattle.refusals.specs.Refusals.{accepted}
+use Rattle.refusals.proofs.Laws.{passes, unless-fine}
 use Rattle.node.specs.Lists.{keep, from, upto, member}
 use Rattle.node.specs.Matrix.{Matrix, width, count, price, IsPlan, Shows, chosen, named}
 use Rattle.node.specs.Node.{root}
 use Rattle.node.specs.Stored.{Small}
 use Rattle.node.proofs.Members.{member-keep, keep-short, keep-swap, keep-cong, keep-all, upto-lt}
 use Rattle.node.proofs.Loops.{keep-append}
-use Rattle.rules.specs.Search.{Answer, none, plan, shownBy, isNone, isStopped}
+use Rattle.rules.specs.Search.{none, plan, shownBy, isNone, isStopped}
 use Rattle.rules.specs.Tree.{sum, live, answer}
 use Rattle.rules.specs.Demand.{Demand3}
 use Rattle.rules.proofs.Plans.{plan-short}
 use Rattle.rules.proofs.Sum.{sum-demand-3}
-use Rattle.dutyfile.specs.File.{Lists, parse, render, instance}
+use Rattle.dutyfile.specs.File.{Lists, parse, render, instance, shape}
 use Rattle.dutyfile.specs.Faults.{rising}
-use Rattle.dutyfile.proofs.Facts.{Accepted, file-fine}
+use Rattle.dutyfile.proofs.Facts.{all-pass, within-asks, file-fine}
 use Rattle.dutyfile.proofs.Columns.{length-bodies}
 use Rattle.dutyfile.proofs.Round.{ReadsBack, reads-back}
 use Rattle.matrix.proofs.Accepted.{file-small}
-use Rattle.search.specs.Searching.{fileAnswer}
+use Rattle.answer.specs.Answer.{valuesOf}
+use Rattle.search.specs.Searching.{callFault, fileAnswer, searching}
 use Rattle.trials.specs.Trials.{extended, trial, own}
 use Rattle.trials.specs.Told.{CoversFirst}
 use Rattle.trials.proofs.Extended.{Extendable, extended-passing, bodies-extended}
@@ -94,6 +97,18 @@ module _ (d : Lists) (x : Extendable d) (limit k : ℕ) (one : 1 ≤ k) (low : k
 
   back : ReadsBack (extended k d)
   back = reads-back (extended k d) (extended-passing d x k one low)
+
+  -- the search call of 01 takes the trial's file, and its answer is the trial's
+  pub trial-searching : (places : ℕ) → d .rows ≤ places → 1 ≤ limit → limit ≤ 1000000
+      → searching (render (extended k d)) limit places ≡ accepted (valuesOf (trial d limit k))
+  unfolding searching callFault trial shape parse extended
+  trial-searching places room least most =
+      let rows : shape (render (extended k d)) .rows ≡ d .rows = ap (λ (x : Lists). x .rows) (back .lists) in
+      let fits : shape (render (extended k d)) .rows ≤ places = rw rows room in
+      sym
+      (unless-fine _
+      (all-pass (back .passes)
+      (all-pass (passes 10 (le-leb _ _ fits)) (within-asks 1 1000000 limit 11 (record { least = least; most = most })))))
 
   matrix-is : instance (parse (render (extended k d))) .matrix ≡ q
   unfolding instance extended

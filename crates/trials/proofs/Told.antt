@@ -1,6 +1,6 @@
 -- What a desk reads of the finding holds, trial by trial: before trial k every trial below was covered, and the columns that the last one
 -- showed cover the rows before row k.
-use mathlib.Core.Path.{_≡_, refl, ap, sym, _∙_}
+use mathlib.Core.Path.{_≡_, refl}
 use mathlib.Core.Bool.{Bool, true, false}
 use mathlib.Core.List.{List, []}
 use Prim.Native.Nat.{ℕ, zero, suc, _+_, _-_, _≤_, _<_}
@@ -14,7 +14,7 @@ use Rattle.rules.specs.Search.{Answer, best, none, stopped, nothing, plan, show
 use Rattle.rules.proofs.Sums.{total-zero}
 use Rattle.dutyfile.specs.File.{Lists, instance}
 use Rattle.dutyfile.specs.Faults.{rising}
-use Rattle.trials.specs.Trials.{trial, own, Finding, no-crew, plan-exists, stopped-at, judged, trialsFrom, finding}
+use Rattle.trials.specs.Trials.{trial, own, judged, trialsFrom, finding}
 use Rattle.trials.specs.Told.{CoversFirst, Covered, NoCrew, StoppedAt, Told}
 use Rattle.trials.proofs.Extended.{Extendable}
 use Rattle.trials.proofs.Searched.{trial-none, trial-covers, trial-rises}

@@ -9,7 +9,7 @@ use borrow.Author.Tests.{leb-true}
 use Rattle.refusals.specs.Refusals.{fine, fault, _then_, Outcome, accepted, refused, front, filled}
 use Rattle.refusals.proofs.Laws.{both, asked, stops-at, goes-on, unless-fine, unless-fault, fills, front-take}
 use Rattle.dutyfile.specs.declared.Shape.{Shape}
-use Rattle.dutyfile.specs.File.{Lists, parse, shape}
+use Rattle.dutyfile.specs.File.{parse, shape}
 use Rattle.dutyfile.specs.Faults.{contentsFault, fileFault}
 use Rattle.dutyfile.proofs.Entries.{length-costs}
 use Rattle.dutyfile.proofs.Facts.{Accepted, file-fine, ask-within, contents-small}

@@ -114,9 +114,11 @@ fn limit_cases() -> Vec<Case> {
         stopped("triangle, allowance 2", triangle(), 2, 3),
         no_crew("triangle, allowance 3", triangle(), 3, 3, &[1]),
         no_crew("no duty on sailing 1, allowance 1", columns(2, &[(&[2], 3)]), 1, 1, &[]),
+        no_crew("no duty on sailing 2, allowance 1", columns(2, &[(&[1], 3)]), 1, 2, &[1]),
         stopped("the kept plan is shown, allowance 1", kept_and_better(), 1, 1),
         no_crew("the kept plan is shown, allowance 2", kept_and_better(), 2, 4, &[1, 3]),
         no_crew("the kept plan is shown, allowance 3", kept_and_better(), 3, 4, &[2]),
+        no_crew("the kept plan is shown, the usual allowance", kept_and_better(), LIMIT, 4, &[2]),
         plan_exists("the kept plan counts as covered, allowance 2", Columns { rows: 3, ..kept_and_better() }, 2),
         plan_exists("one duty, allowance 1", one_duty(), 1),
     ]
