@@ -1,4 +1,5 @@
--- What a desk reads of a finding (02, P6): a statement for each, with a field for each sentence. A set of duties is any choice, a function from columns to Bool.
+-- What a desk reads of a finding (02, P6): a statement for each, with a field for each sentence. A set of duties is any choice, a function
+-- from columns to Bool.
 use mathlib.Core.Path.{_≡_}
 use mathlib.Core.Bool.{Bool, true}
 use mathlib.Core.List.{List}
