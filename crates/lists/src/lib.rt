@@ -1,7 +1,7 @@
 // A file read as the list of its matrix and a table of its costs.
 use examine::ReadAnswer;
 ghost use mathlib.Core.Path.{_≡_};
-ghost use lib.ListN.{replicate};
+ghost use lib.ListN.{length, replicate};
 ghost use Rattle.refusals.specs.Refusals.{unless, filled};
 ghost use Rattle.refusals.specs.declared.Refusal.{Refusal};
 ghost use Rattle.dutyfile.specs.declared.Shape.{Shape};
@@ -9,6 +9,7 @@ ghost use Rattle.dutyfile.specs.File.{parse, shape};
 ghost use Rattle.dutyfile.specs.Faults.{fileFault};
 ghost use Rattle.examine.specs.declared.ReadAnswer.the-variants.{Accepted, Refused};
 ghost use Rattle.examine.specs.Answer.{readOutcome};
+ghost use Rattle.matrix.specs.Stated.{stated, Statable, Holds};
 ghost use Rattle.lists.specs.Places.{Places};
 ghost use Rattle.lists.specs.Loaded.{Loaded};
 
@@ -47,6 +48,15 @@ pub fn read_lists(
     reader::read(file, costs, lengths, numbers)
 }
 
+// Builds the list that keeps the matrix that lists state, in a place for it.
+pub fn fill_matrix(rows: usize, lengths: &[u16], numbers: &[u8], matrix: &mut [u16; 8516])
+    requires { ⌜ Statable rows (now lengths) (now numbers) ⌝ }
+    ensures { λ _. ⌜ length (now (matrix .exit)) ≡ 8516 ⌝ }
+    ensures { λ _. ⌜ Holds (now (matrix .exit)) (stated rows (now (lengths .entry)) (now (numbers .entry))) ⌝ }
+{
+    *matrix = matrix::matrix_list(rows, lengths, numbers);
+}
+
 // Reads a file: the list of its matrix, and its costs; or a refusal, with both as they were.
 pub fn read_matrix(file: &[u8], matrix: &mut [u16; 8516], costs: &mut [u32; 256]) -> ReadAnswer
     requires { ⌜ now costs ≡ replicate 256 0 ⌝ }
@@ -63,7 +73,12 @@ pub fn read_matrix(file: &[u8], matrix: &mut [u16; 8516], costs: &mut [u32; 256]
         ReadAnswer::Accepted(shape) => {
             let columns = shape.columns;
             let entries = shape.entries;
-            *matrix = matrix::matrix_list(shape.rows, &lengths[0..columns], &numbers[0..entries]);
+            fill_matrix(
+                shape.rows,
+                &lengths[0..columns],
+                &numbers[0..entries],
+                matrix,
+            );
             ReadAnswer::Accepted(shape)
         }
     }

@@ -54,10 +54,12 @@ pub fn search_trial(
     append(found, k, &mut all_costs, &mut all_lengths, &mut all_numbers);
     let columns = found.columns + (found.rows - k);
     let entries = found.entries + (found.rows - k);
-    let matrix = matrix::matrix_list(
+    let mut matrix = matrix::no_cells();
+    lists::fill_matrix(
         found.rows,
         &all_lengths[0..columns],
         &all_numbers[0..entries],
+        &mut matrix,
     );
     let first = root::root_node(&matrix, all_costs);
     solver::search_live(Goal::Sum, first, &matrix, limit)

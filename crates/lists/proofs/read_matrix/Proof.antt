@@ -39,26 +39,26 @@ enum-known-found c = search needs
 enum-known-found-2 : tie.Need-enum-known-found-2
 enum-known-found-2 c = search needs
 
-sub-matrix-list : tie.Need-sub-matrix-list
-sub-matrix-list c = search needs
+sub-fill-matrix : tie.Need-sub-fill-matrix
+sub-fill-matrix c = search needs
 
-part-matrix-list-start : tie.Need-part-matrix-list-start
-part-matrix-list-start c = search needs
+part-fill-matrix-start : tie.Need-part-fill-matrix-start
+part-fill-matrix-start c = search needs
 
-part-matrix-list-end : tie.Need-part-matrix-list-end
-part-matrix-list-end c = omega (arith, listed (c .before .before) .columns)
+part-fill-matrix-end : tie.Need-part-fill-matrix-end
+part-fill-matrix-end c = omega (arith, listed (c .before .before) .columns)
 
-sub-matrix-list-2 : tie.Need-sub-matrix-list-2
-sub-matrix-list-2 c = search needs
+sub-fill-matrix-2 : tie.Need-sub-fill-matrix-2
+sub-fill-matrix-2 c = search needs
 
-part-matrix-list-start-2 : tie.Need-part-matrix-list-start-2
-part-matrix-list-start-2 c = search needs
+part-fill-matrix-start-2 : tie.Need-part-fill-matrix-start-2
+part-fill-matrix-start-2 c = search needs
 
-part-matrix-list-end-2 : tie.Need-part-matrix-list-end-2
-part-matrix-list-end-2 c = omega (arith, listed (c .before .before .before .before) .entries)
+part-fill-matrix-end-2 : tie.Need-part-fill-matrix-end-2
+part-fill-matrix-end-2 c = omega (arith, listed (c .before .before .before .before) .entries)
 
-matrix-list-requires : tie.Need-matrix-list-requires
-matrix-list-requires c κs = parts-statable _ _ _ _ _ (listed (c .before .before .before .before .before))
+fill-matrix-requires : tie.Need-fill-matrix-requires
+fill-matrix-requires c κs = parts-statable _ _ _ _ _ (listed (c .before .before .before .before .before .before))
 
 returns : tie.Need-returns
 unfolding readOutcome
@@ -71,13 +71,13 @@ returns c =
 returns-2 : tie.Need-returns-2
 unfolding readOutcome
 returns-2 c =
-    let f = c .before .before .before .before .before .before in
+    let f = c .before .before .before .before .before .before .before in
     let e = f .before .before .before .before .read-lists .ensures in
     let is = f .found2 .given .1 in (
       rw is at (e .0),
       (
         rw is at (e .1 .0),
-        (λ why q. absurd (refuses-only _ _ (sym q)), λ found q. loaded-as _ _ _ _ _ (listed f) _ (search needs) (search needs) (c .matrix-list .ensures) found q),
+        (λ why q. absurd (refuses-only _ _ (sym q)), λ found q. loaded-as _ _ _ _ _ (listed f) _ (c .fill-matrix .ensures .0) (search needs) (c .fill-matrix .ensures .1) found q),
       ),
     )
 
@@ -92,12 +92,12 @@ read-matrix-spec =
     read-lists-requires
     enum-known-found
     enum-known-found-2
-    sub-matrix-list
-    part-matrix-list-start
-    part-matrix-list-end
-    sub-matrix-list-2
-    part-matrix-list-start-2
-    part-matrix-list-end-2
-    matrix-list-requires
+    sub-fill-matrix
+    part-fill-matrix-start
+    part-fill-matrix-end
+    sub-fill-matrix-2
+    part-fill-matrix-start-2
+    part-fill-matrix-end-2
+    fill-matrix-requires
     returns
     returns-2)

@@ -28,11 +28,14 @@ long c =
     made-long _ _ _ _ _ (b .pre .0) _ (b .pre .1) (b .pre .2) _ _ _ (e .0) (e .1 .0) (e .1 .1) (search needs) (search needs) (search needs)
 
 -- and what they are read as
-lists-loaded : (c : tie.After-matrix-list) →
-    let k = c .before .before .before .before .before .before .before .before .before in
+lists-loaded : (c : tie.After-fill-matrix) →
+    let k = c .before .before .before .before .before .before .before .before .before .before .before in
     let a = k .before .before .before .before .args in
-    Loaded (trialFile (a .found) (a .costs) (a .lengths) (a .numbers) (a .k)) (more (a .found) (a .k)) (c .matrix-list .result) (k .append .last .1 .1 .0)
-lists-loaded c = let k = c .before .before .before .before .before .before .before .before .before in loaded _ _ _ _ _ (lists-made k) _ (search needs) (long k .0) (c .matrix-list .ensures)
+    Loaded (trialFile (a .found) (a .costs) (a .lengths) (a .numbers) (a .k)) (more (a .found) (a .k)) (c .fill-matrix .last .1 .1 .1 .0) (k .append .last .1 .1 .0)
+lists-loaded c =
+    let k = c .before .before .before .before .before .before .before .before .before .before .before in
+    let e = c .fill-matrix .ensures in
+    loaded _ _ _ _ _ (lists-made k) _ (e .0) (long k .0) (e .1)
 
 append-requires : tie.Need-append-requires
 append-requires c κs = let p = c .before .before .before .pre in places _ _ _ _ _ (p .0) _ (p .1) (p .2)
@@ -49,32 +52,35 @@ sub-entries c = search needs
 add-entries : tie.Need-add-entries
 add-entries c = search needs
 
-sub-matrix-list : tie.Need-sub-matrix-list
-sub-matrix-list c = search needs
+no-cells-requires : tie.Need-no-cells-requires
+no-cells-requires c κs = search needs
 
-part-matrix-list-start : tie.Need-part-matrix-list-start
-part-matrix-list-start c = search needs
+sub-fill-matrix : tie.Need-sub-fill-matrix
+sub-fill-matrix c = search needs
 
-part-matrix-list-end : tie.Need-part-matrix-list-end
-part-matrix-list-end c = let k = c .before .before .before .before .before in omega (arith, lists-made k .columns, long k .1)
+part-fill-matrix-start : tie.Need-part-fill-matrix-start
+part-fill-matrix-start c = search needs
 
-sub-matrix-list-2 : tie.Need-sub-matrix-list-2
-sub-matrix-list-2 c = search needs
+part-fill-matrix-end : tie.Need-part-fill-matrix-end
+part-fill-matrix-end c = let k = c .before .before .before .before .before .before in omega (arith, lists-made k .columns, long k .1)
 
-part-matrix-list-start-2 : tie.Need-part-matrix-list-start-2
-part-matrix-list-start-2 c = search needs
+sub-fill-matrix-2 : tie.Need-sub-fill-matrix-2
+sub-fill-matrix-2 c = search needs
 
-part-matrix-list-end-2 : tie.Need-part-matrix-list-end-2
-part-matrix-list-end-2 c = let k = c .before .before .before .before .before .before .before in omega (arith, lists-made k .entries, long k .2)
+part-fill-matrix-start-2 : tie.Need-part-fill-matrix-start-2
+part-fill-matrix-start-2 c = search needs
 
-matrix-list-requires : tie.Need-matrix-list-requires
-matrix-list-requires c κs = parts-statable _ _ _ _ _ (lists-made (c .before .before .before .before .before .before .before .before))
+part-fill-matrix-end-2 : tie.Need-part-fill-matrix-end-2
+part-fill-matrix-end-2 c = let k = c .before .before .before .before .before .before .before .before in omega (arith, lists-made k .entries, long k .2)
+
+fill-matrix-requires : tie.Need-fill-matrix-requires
+fill-matrix-requires c κs = parts-statable _ _ _ _ _ (lists-made (c .before .before .before .before .before .before .before .before .before .before))
 
 slice-aggregate-root-node : tie.Need-slice-aggregate-root-node
 slice-aggregate-root-node c = search needs
 
 root-node-requires : tie.Need-root-node-requires
-root-node-requires c κs = search needs
+root-node-requires c κs = c .before .fill-matrix .ensures .1 .kept
 
 slice-aggregate-search-live : tie.Need-slice-aggregate-search-live
 slice-aggregate-search-live c = search needs
@@ -82,13 +88,13 @@ slice-aggregate-search-live c = search needs
 search-live-requires : tie.Need-search-live-requires
 search-live-requires c κs =
     let m = c .before .before .before in
-    let p = m .before .before .before .before .before .before .before .before .before .before .before .before .before .pre in
+    let p = m .before .before .before .before .before .before .before .before .before .before .before .before .before .before .before .pre in
     searchable _ _ _ _ _ (p .0) _ (p .1) (p .2) _ _ (lists-loaded m) _ (c .before .root-node .ensures)
 
 returns : tie.Need-returns
 returns c =
     let m = c .before .before .before .before in
-    let p = m .before .before .before .before .before .before .before .before .before .before .before .before .before .pre in
+    let p = m .before .before .before .before .before .before .before .before .before .before .before .before .before .before .before .pre in
     searched _ _ _ _ _ (p .0) _ (p .1) (p .2) _ _ (lists-loaded m) _ (c .before .before .root-node .ensures) (c .search-live .result) (c .search-live .ensures)
 
 pub search-trial-spec : {M : Type 1} → statement M
@@ -100,13 +106,14 @@ search-trial-spec =
     add-columns
     sub-entries
     add-entries
-    sub-matrix-list
-    part-matrix-list-start
-    part-matrix-list-end
-    sub-matrix-list-2
-    part-matrix-list-start-2
-    part-matrix-list-end-2
-    matrix-list-requires
+    no-cells-requires
+    sub-fill-matrix
+    part-fill-matrix-start
+    part-fill-matrix-end
+    sub-fill-matrix-2
+    part-fill-matrix-start-2
+    part-fill-matrix-end-2
+    fill-matrix-requires
     slice-aggregate-root-node
     root-node-requires
     slice-aggregate-search-live
