@@ -1,18 +1,20 @@
 -- A column of a file whose contents pass: its entry says its cost, and its body is the part of the file from the entry's start for its length.
-use mathlib.Core.Path.{_≡_, refl, ap, _∙_}
+use mathlib.Core.Path.{_≡_, refl, ap, sym, _∙_}
+use mathlib.Core.Bool.{true}
 use mathlib.Core.List.{List, [], _∷_, map}
-use Prim.Native.Nat.{ℕ, zero, suc, _+_, _≤_, _<_}
+use Prim.Native.Nat.{ℕ, zero, suc, _+_, _-_, _≤_, _<_}
 use native.Mathlib.Nat.{add-zero}
 use native.Mathlib.Omega.{arith}
 use lib.ListN.{length, getD, take, drop, length-map, List·getD-map}
 use lib.Seq.{drop-drop}
 use Rattle.refusals.specs.Refusals.{fine}
-use Rattle.node.specs.Matrix.{width}
+use Rattle.node.specs.Matrix.{width, body}
 use Rattle.dutyfile.specs.declared.Entry.{Entry}
 use Rattle.dutyfile.specs.File.{rowsIn, columnsIn, bodiesAt, entryOf, entries, costOf, sizeOf, parse, sum, bodies, instance}
-use Rattle.dutyfile.specs.Faults.{entriesFault}
+use Rattle.dutyfile.specs.Faults.{rising, entriesFault, rowsFault}
 use Rattle.dutyfile.proofs.Entries.{length-entries, length-lengths, entries-at}
-use Rattle.dutyfile.proofs.Facts.{Within, Column, column-fine, entry-fine, Walked}
+use Rattle.dutyfile.proofs.Facts.{Within, Column, column-fine, entry-fine, Walked, Accepted}
+use Rattle.dutyfile.proofs.Rising.{rising-wider, bodies-rise}
 
 -- the rows of the first j bodies
 abbrev before : ℕ → List Entry → ℕ
@@ -78,3 +80,19 @@ column-at s w j h = go (entryOf (drop (bodiesAt j) s)) (entries-at s j (entryOf 
           cheap = p .column .cost;
           sized = p .column .size;
         }
+
+module _ (s : List ℕ) (a : Accepted s) where
+  -- each body rises within 64 rows
+  pub body-rises : (j : ℕ) → rising 0 64 (body (instance (parse s) .matrix) j) ≡ true
+  unfolding instance rowsFault
+  body-rises j =
+      rising-wider 0 (rowsIn s) 64 _ (bodies-rise (rowsIn s) (bodies (parse s .lengths) (parse s .numbers)) j (a .rising)) (a .walked .header .counts .rows .most)
+
+  -- and is the part of the file between the places that its entry names
+  pub part-is : (j : ℕ) (e : Entry) → j < columnsIn s → e ≡ entryOf (drop (bodiesAt j) s) →
+      take (e .start + e .size - e .start) (drop (e .start) s) ≡ body (instance (parse s) .matrix) j
+  unfolding instance
+  part-is j e h is =
+      let z : e .start + e .size - e .start ≡ e .size = omega arith in
+      let c : ColumnAt s j e = rw is (column-at s (a .walked) j h) in
+      rw z (sym (c .body))

@@ -1,16 +1,16 @@
 -- A list that rises, as a loop meets it: what is left of it from a place on, a step further and at its end.
 use mathlib.Core.Path.{_≡_, refl}
-use mathlib.Core.Bool.{true, false, _&&_}
-use mathlib.Core.List.{List, [], _∷_}
+use mathlib.Core.Bool.{Bool, true, false, cond, _&&_}
+use mathlib.Core.List.{List, [], _∷_, map}
 use Prim.Native.Nat.{ℕ, zero, suc, _+_, _≤_, _<_}
 use native.Mathlib.Omega.{arith}
-use lib.Dec.{leb, ltb}
+use lib.Dec.{leb, ltb, eqb·suc-suc}
 use borrow.Author.Tests.{lt-ltb, le-ltb, le-leb, lt-leb, ltb-true, leb-true, ne-eqb}
 use lib.ListN.{length, getD, drop, drop-of-length-le}
 use Rattle.node.proofs.Loops.{drop-step}
 use Rattle.refusals.specs.Refusals.{fine, fault}
 use Rattle.refusals.proofs.Laws.{stops-at, goes-on, passes, fails, both, asked}
-use Rattle.node.specs.Lists.{member}
+use Rattle.node.specs.Lists.{member, keep, from}
 use Rattle.node.proofs.Members.{and-both}
 use Rattle.dutyfile.specs.Faults.{rising, bodiesFault}
 
@@ -87,3 +87,22 @@ unfolding bodiesFault rising
 bodies-rise m [] j e = refl
 bodies-rise m (b ∷ bs) zero e = asked (rising 0 m b) 9 (both _ _ e .0)
 bodies-rise m (b ∷ bs) (suc j) e = bodies-rise m bs j (both _ _ e .1)
+
+-- columns of a matrix, numbered from 1, rise
+pub numbers-rise : (t : ℕ → Bool) (n k low : ℕ) → low ≤ k → rising low (k + n) (map suc (keep t (from n k))) ≡ true
+unfolding keep from rising
+numbers-rise t zero k low l = refl
+numbers-rise t (suc n) k low l =
+    let s : suc k + n ≡ k + suc n = omega arith in
+    go (t k) (keep t (from n (suc k))) (rw s at (numbers-rise t n (suc k) (suc k) (omega arith)))
+    (rw s at (numbers-rise t n (suc k) low (omega (arith, l))))
+  where
+    go : (b : Bool) (rest : List ℕ) → rising (suc k) (k + suc n) (map suc rest) ≡ true → rising low (k + suc n) (map suc rest) ≡ true
+        → rising low (k + suc n) (map suc (cond b (k ∷ rest) rest)) ≡ true
+    go true rest h i = simp (lt-ltb low (suc k) (omega (arith, l)), le-leb (suc k) (k + suc n) (omega arith), h)
+    go false rest h i = i
+
+pub numbers-member : (j : ℕ) (js : List ℕ) → member (suc j) (map suc js) ≡ member j js
+unfolding member
+numbers-member j [] = refl
+numbers-member j (x ∷ xs) = rw (eqb·suc-suc j x, numbers-member j xs)

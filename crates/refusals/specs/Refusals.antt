@@ -4,7 +4,7 @@ use mathlib.Core.List.{List, _++_}
 use Prim.Native.Nat.{ℕ}
 use lib.ListN.{length, drop}
 use Rattle.refusals.specs.declared.Refusal.{Refusal}
-use Rattle.refusals.specs.declared.Refusal.the-variants.{Magic, Counts, Contents, Cost, Length, Total, Start, End, Row, Room, NodeLimit, Offered, Lists, Agreed, Absent, TableSize, TableCost, TrialColumns}
+use Rattle.refusals.specs.declared.Refusal.the-variants.{Magic, Counts, Contents, Cost, Length, Total, Start, End, Row, Room, NodeLimit, Offered, Lists, Agreed, Absent, TableSize, TableCost, TrialColumns, StepColumn}
 use Rattle.refusals.specs.declared.Check.{Check}
 use Rattle.refusals.specs.declared.Check.the-variants.{Passed, Failed}
 
@@ -28,6 +28,7 @@ numberOf Absent = 15
 numberOf TableSize = 16
 numberOf TableCost = 17
 numberOf TrialColumns = 18
+numberOf StepColumn = 19
 
 -- what tests find: nothing, or a fault with 01's number
 pub data Fault : Type 0 where

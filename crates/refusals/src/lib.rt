@@ -40,6 +40,8 @@ pub enum Refusal {
     TableCost,
     // More columns than a call that appends some takes.
     TrialColumns,
+    // The column of a step is out of range.
+    StepColumn,
 }
 
 // What a test, or a sequence of tests, comes to.
@@ -71,5 +73,6 @@ pub fn number(why: Refusal) -> u32
         Refusal::TableSize => 16,
         Refusal::TableCost => 17,
         Refusal::TrialColumns => 18,
+        Refusal::StepColumn => 19,
     }
 }

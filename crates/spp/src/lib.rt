@@ -6,6 +6,8 @@ use flat::SppReduced;
 use flat::SppShape;
 use flat::SppWritten;
 use flat_assign::SppAssigned;
+use flat_desk::SppReply;
+use flat_desk::SppStep;
 use flat_uncrewed::SppUncrewed;
 ghost use mathlib.Core.Path.{_≡_};
 ghost use lib.ListN.{length};
@@ -17,7 +19,7 @@ ghost use Rattle.rules.specs.Demand.{Demand3};
 ghost use Rattle.rules.specs.Longest.{dearest, longest};
 ghost use Rattle.rules.specs.Requests.{Requests, asking, begun, Granted};
 ghost use Rattle.dutyfile.specs.File.{parse, lists, render, instance};
-ghost use Rattle.dutyfile.specs.Faults.{reading, writing};
+ghost use Rattle.dutyfile.specs.Faults.{fileFault, reading, writing};
 ghost use Rattle.verify.specs.Verdict.{checking};
 ghost use Rattle.reduce.specs.Answer.{reducing, reducedCosts, usedRows};
 ghost use Rattle.search.specs.Requests.{searchingWith, planListWith, longestSearchingWith, longestListWith};
@@ -26,7 +28,11 @@ ghost use Rattle.trials.specs.Told.{Told};
 ghost use Rattle.uncrewed.specs.Answer.{seen, uncrewing, uncrewedList};
 ghost use Rattle.assign.specs.Answer.{assigning, vesselList};
 ghost use Rattle.assign.specs.Assigned.{Assigned};
+ghost use Rattle.desk.specs.declared.Way.the-variants.{Adding, Removing};
+ghost use Rattle.desk.specs.Desk.{deskOf, replying};
+ghost use Rattle.desk.specs.Steps.{stepping, stepped, emptied};
 ghost use Rattle.flat_assign.specs.Struct.{assignedOf, outcomeIn};
+ghost use Rattle.flat_desk.specs.Struct.{faultNumber, stepOf, replyIn};
 ghost use Rattle.flat_uncrewed.specs.Struct.{uncrewedOf, uncrewedIn};
 ghost use Rattle.flat.specs.Flat.{shapeOf, writtenOf, checkedOf, reducedOf, answerOf, seenIn};
 
@@ -150,4 +156,64 @@ pub extern "C" fn spp_core_uncrewed(file: &[u8], node_limit: u32, shown: &mut [u
 {
     let found = uncrewed::uncrewed(file, node_limit, shown);
     flat_uncrewed::flat_uncrewed(found)
+}
+
+// Makes a desk empty over a duty file, whatever it held: 0; or a refusal's number, with the desk as it was.
+#[no_mangle]
+pub extern "C" fn spp_core_desk_empty(
+    file: &[u8],
+    marks: &mut [u8; 256],
+    covered: &mut [u32; 64],
+    off: &mut u32,
+    total: &mut i32,
+) -> u32
+    ensures { λ r. ⌜ r ≡ faultNumber (fileFault (now (file .entry))) ⌝ }
+    ensures { λ _. ⌜ deskOf (now (marks .exit)) (now (covered .exit)) (now (off .exit)) (now (total .exit)) ≡ emptied (now (file .entry)) (deskOf (now (marks .entry)) (now (covered .entry)) (now (off .entry)) (now (total .entry))) ⌝ }
+{
+    let made = desk::empty(file, marks, covered, off, total);
+    flat_desk::flat_check(made)
+}
+
+// Adds a column of a duty file to a desk, whatever the desk holds: changed, or unchanged where the column is in already, or a refusal; with
+// these two the desk is as it was.
+#[no_mangle]
+pub extern "C" fn spp_core_desk_add(
+    file: &[u8],
+    column: u32,
+    marks: &mut [u8; 256],
+    covered: &mut [u32; 64],
+    off: &mut u32,
+    total: &mut i32,
+) -> SppStep
+    ensures { λ r. ⌜ r ≡ stepOf (stepping Adding (now (file .entry)) column (deskOf (now (marks .entry)) (now (covered .entry)) (now (off .entry)) (now (total .entry)))) ⌝ }
+    ensures { λ _. ⌜ deskOf (now (marks .exit)) (now (covered .exit)) (now (off .exit)) (now (total .exit)) ≡ stepped Adding (now (file .entry)) column (deskOf (now (marks .entry)) (now (covered .entry)) (now (off .entry)) (now (total .entry))) ⌝ }
+{
+    let said = desk::add(file, column, marks, covered, off, total);
+    flat_desk::flat_step(said)
+}
+
+// Removes a column of a duty file from a desk, whatever the desk holds: changed, or unchanged where the column is not in, or a refusal; with
+// these two the desk is as it was.
+#[no_mangle]
+pub extern "C" fn spp_core_desk_remove(
+    file: &[u8],
+    column: u32,
+    marks: &mut [u8; 256],
+    covered: &mut [u32; 64],
+    off: &mut u32,
+    total: &mut i32,
+) -> SppStep
+    ensures { λ r. ⌜ r ≡ stepOf (stepping Removing (now (file .entry)) column (deskOf (now (marks .entry)) (now (covered .entry)) (now (off .entry)) (now (total .entry)))) ⌝ }
+    ensures { λ _. ⌜ deskOf (now (marks .exit)) (now (covered .exit)) (now (off .exit)) (now (total .exit)) ≡ stepped Removing (now (file .entry)) column (deskOf (now (marks .entry)) (now (covered .entry)) (now (off .entry)) (now (total .entry))) ⌝ }
+{
+    let said = desk::remove(file, column, marks, covered, off, total);
+    flat_desk::flat_step(said)
+}
+
+// Whether the columns that are in are a plan, and what it costs, by the last two numbers of a desk alone.
+#[no_mangle]
+pub extern "C" fn spp_core_desk_reply(off: u32, total: i32) -> SppReply
+    ensures { λ r. ⌜ r ≡ replyIn (replying off total) ⌝ }
+{
+    flat_desk::flat_reply(desk::reply(off, total))
 }

@@ -14,7 +14,7 @@ use Rattle.node.specs.Lists.{member, on, total}
 use Rattle.node.specs.Matrix.{Matrix, width, covers, count, IsPlan}
 use Rattle.node.proofs.Members.{length-from}
 use Rattle.node.proofs.Parts.{map-at}
-use Rattle.rules.proofs.Sums.{total-cong, total-zero, total-at}
+use Rattle.rules.proofs.Sums.{total-cong, total-zero, total-at, count-same}
 use Rattle.trials.specs.Told.{CoversFirst}
 use Rattle.trials.proofs.Extended.{singles}
 
@@ -24,11 +24,6 @@ total-split n zero f = rw (add-zero n) (omega arith)
 total-split n (suc e) f =
     let s : n + suc e ≡ suc (n + e) = omega arith in
     rw s (omega (arith, total-split n e f))
-
--- the count of a row depends on the columns of the matrix alone
-pub count-same : (p : Matrix) (i : ℕ) (X Y : ℕ → Bool) → ((j : ℕ) → j < width p → X j ≡ Y j) → count p i X ≡ count p i Y
-unfolding count
-count-same p i X Y h = total-cong (width p) _ _ (λ j l. rw (h j l))
 
 or-false : (b : Bool) → (b || false) ≡ b
 or-false true = refl

@@ -1,17 +1,17 @@
 -- What a trial's answer says of the file: none means that no choice covers the first k rows, and a plan shown covers them without the
 -- appended columns.
 use mathlib.Core.Path.{_≡_, refl, ap, sym, _∙_}
-use mathlib.Core.Bool.{Bool, true, false, cond}
-use mathlib.Core.List.{List, [], _∷_, _++_, map, append-nil}
+use mathlib.Core.Bool.{Bool, true}
+use mathlib.Core.List.{List, [], _∷_, _++_, append-nil}
 use Prim.Native.Nat.{ℕ, zero, suc, _+_, _≤_, _<_}
 use native.Mathlib.Nat.{zero-add, add-zero}
 use native.Mathlib.Omega.{arith}
-use lib.Dec.{eqb, ltb}
+use lib.Dec.{ltb}
 use lib.ListN.{length, length-map}
-use borrow.Author.Tests.{eq-eqb, ne-eqb, eqb-true, eqb-false, lt-ltb, le-leb, le-ltb}
+use borrow.Author.Tests.{lt-ltb, le-leb, le-ltb}
 use Rattle.refusals.specs.Refusals.{accepted}
 use Rattle.refusals.proofs.Laws.{passes, unless-fine}
-use Rattle.node.specs.Lists.{keep, from, upto, member}
+use Rattle.node.specs.Lists.{keep, from, upto}
 use Rattle.node.specs.Matrix.{Matrix, width, count, price, IsPlan, Shows, chosen, named}
 use Rattle.node.specs.Node.{root}
 use Rattle.node.specs.Stored.{Small}
@@ -21,11 +21,13 @@ use Rattle.rules.specs.Search.{none, plan, shownBy, isNone, isStopped}
 use Rattle.rules.specs.Tree.{sum, live, answer}
 use Rattle.rules.specs.Demand.{Demand3}
 use Rattle.rules.proofs.Plans.{plan-short}
+use Rattle.rules.proofs.Sums.{count-same}
 use Rattle.rules.proofs.Sum.{sum-demand-3}
 use Rattle.dutyfile.specs.File.{Lists, parse, render, instance, shape}
 use Rattle.dutyfile.specs.Faults.{rising}
 use Rattle.dutyfile.proofs.Facts.{all-pass, within-asks, file-fine}
 use Rattle.dutyfile.proofs.Columns.{length-bodies}
+use Rattle.dutyfile.proofs.Rising.{numbers-rise, numbers-member}
 use Rattle.dutyfile.proofs.Round.{ReadsBack, reads-back}
 use Rattle.matrix.proofs.Accepted.{file-small}
 use Rattle.answer.specs.Answer.{valuesOf}
@@ -33,7 +35,7 @@ use Rattle.search.specs.Searching.{callFault, fileAnswer, searching}
 use Rattle.trials.specs.Trials.{extended, trial, own}
 use Rattle.trials.specs.Told.{CoversFirst}
 use Rattle.trials.proofs.Extended.{Extendable, extended-passing, bodies-extended}
-use Rattle.trials.proofs.Appended.{appended, width-appended, count-same, plan-covers, completed, covers-plan}
+use Rattle.trials.proofs.Appended.{appended, width-appended, plan-covers, completed, covers-plan}
 
 -- the columns below n of those below n + e
 from-split : (n e k : ℕ) → from (n + e) k ≡ from n k ++ from e (k + n)
@@ -57,32 +59,6 @@ keep-below t n e =
     keep-swap (λ j. ltb j n) t (upto (n + e))
     ∙ ap (keep t) (ap (keep (λ j. ltb j n)) (from-split n e 0) ∙ keep-append (λ j. ltb j n) (upto n) (from e (0 + n))
     ∙ rw (all-below n, none-below n e (0 + n) (omega arith)) (append-nil (upto n)))
-
--- columns of a matrix, numbered from 1, rise
-numbers-rise : (t : ℕ → Bool) (n k low : ℕ) → low ≤ k → rising low (k + n) (map suc (keep t (from n k))) ≡ true
-unfolding keep from rising
-numbers-rise t zero k low l = refl
-numbers-rise t (suc n) k low l =
-    let s : suc k + n ≡ k + suc n = omega arith in
-    go (t k) (keep t (from n (suc k))) (rw s at (numbers-rise t n (suc k) (suc k) (omega arith)))
-    (rw s at (numbers-rise t n (suc k) low (omega (arith, l))))
-  where
-    go : (b : Bool) (rest : List ℕ) → rising (suc k) (k + suc n) (map suc rest) ≡ true → rising low (k + suc n) (map suc rest) ≡ true
-        → rising low (k + suc n) (map suc (cond b (k ∷ rest) rest)) ≡ true
-    go true rest h i = simp (lt-ltb low (suc k) (omega (arith, l)), le-leb (suc k) (k + suc n) (omega arith), h)
-    go false rest h i = i
-
-suc-eqb : (j x : ℕ) → eqb (suc j) (suc x) ≡ eqb j x
-suc-eqb j x = go (eqb j x) refl
-  where
-    go : (b : Bool) → eqb j x ≡ b → eqb (suc j) (suc x) ≡ b
-    go true e = eq-eqb (suc j) (suc x) (ap suc (eqb-true j x e))
-    go false e = ne-eqb (suc j) (suc x) (λ q. eqb-false j x e (omega (arith, q)))
-
-member-suc : (j : ℕ) (js : List ℕ) → member (suc j) (map suc js) ≡ member j js
-unfolding member
-member-suc j [] = refl
-member-suc j (x ∷ xs) = rw (suc-eqb j x, member-suc j xs)
 
 module _ (d : Lists) (x : Extendable d) (limit k : ℕ) (one : 1 ≤ k) (low : k ≤ d .rows) where
   abbrev p : Matrix
@@ -133,7 +109,7 @@ module _ (d : Lists) (x : Extendable d) (limit k : ℕ) (one : 1 ≤ k) (low : k
 
     own-named : (j : ℕ) → j < width p → named (own (width p) js) j ≡ chosen js j
     unfolding own
-    own-named j l = member-suc j (keep (λ i. ltb i (width p)) js) ∙ member-keep (λ i. ltb i (width p)) j js ∙ rw (lt-ltb j (width p) l)
+    own-named j l = numbers-member j (keep (λ i. ltb i (width p)) js) ∙ member-keep (λ i. ltb i (width p)) j js ∙ rw (lt-ltb j (width p) l)
 
     pub trial-covers : CoversFirst p k (named (own (length (d .costs)) js))
     unfolding instance

@@ -1,5 +1,5 @@
 mod Sums
 mod Counting
 mod Walk
-mod Verdicts
+pub mod Verdicts
 pub mod Meaning

@@ -14,12 +14,12 @@ use Rattle.node.specs.Lists.{on}
 use Rattle.node.specs.Matrix.{covers, count, price, named}
 use Rattle.dutyfile.specs.File.{rowsIn, columnsIn, parse, instance, shape}
 use Rattle.dutyfile.specs.Faults.{rising, fileFault}
-use Rattle.dutyfile.proofs.Columns.{file-width}
+use Rattle.dutyfile.proofs.Columns.{file-width, body-rises}
 use Rattle.verify.specs.Counts.{noneCovered, countedAll, tally}
 use Rattle.verify.specs.Verdict.{plan, notOnce, lowest, verdict, checking}
 use Rattle.verify.proofs.Sums.{tally-total}
 use Rattle.verify.proofs.Counting.{counted-all-at}
-use Rattle.verify.proofs.Walk.{fileMatrix, Offered, body-rises, none-at}
+use Rattle.verify.proofs.Walk.{fileMatrix, Offered, none-at}
 
 -- row by row
 module _ (covered : ℕ → ℕ) (cost m i : ℕ) (inside : i < m) where
@@ -54,7 +54,7 @@ module _ (s js : List ℕ) (o : Offered s js) where
       rw (file-width s)
       (omega (
         arith,
-        counted-all-at (fileMatrix s) js noneCovered i (body-rises s js o) refl,
+        counted-all-at (fileMatrix s) js noneCovered i (body-rises s (o .file)) refl,
         none-at 64 i,
         tally-total 0 (columnsIn s) js (λ j. on (covers (fileMatrix s) i j) 1) (o .rises),
       ))

@@ -1,5 +1,5 @@
 -- The walk over the offered columns of an accepted file: the counts and the cost of those that are left give what all of them give.
-use mathlib.Core.Path.{_≡_, refl, sym, _∙_}
+use mathlib.Core.Path.{_≡_, refl, _∙_}
 use mathlib.Core.Bool.{true}
 use mathlib.Core.List.{List}
 use Prim.Native.Nat.{ℕ, zero, suc, _+_, _*_, _-_, _≤_, _<_}
@@ -9,11 +9,11 @@ use Rattle.node.proofs.Loops.{drop-step}
 use Rattle.node.specs.Matrix.{Matrix, body}
 use Rattle.refusals.specs.Refusals.{fine}
 use Rattle.dutyfile.specs.declared.Entry.{Entry}
-use Rattle.dutyfile.specs.File.{rowsIn, columnsIn, bodiesAt, entryOf, parse, bodies, instance}
-use Rattle.dutyfile.specs.Faults.{rising, rowsFault, fileFault}
+use Rattle.dutyfile.specs.File.{columnsIn, bodiesAt, entryOf, parse, instance}
+use Rattle.dutyfile.specs.Faults.{rising, fileFault}
 use Rattle.dutyfile.proofs.Facts.{Accepted, file-fine}
-use Rattle.dutyfile.proofs.Columns.{ColumnAt, column-at}
-use Rattle.dutyfile.proofs.Rising.{rising-at, rising-short, rising-wider, bodies-rise}
+use Rattle.dutyfile.proofs.Columns.{ColumnAt, column-at, body-rises, part-is}
+use Rattle.dutyfile.proofs.Rising.{rising-at, rising-short}
 use Rattle.verify.specs.Counts.{noneCovered, counted, countedAll, tally}
 use Rattle.verify.proofs.Counting.{length-counted, counted-le}
 
@@ -29,12 +29,6 @@ pub offered : (s js : List ℕ) → fileFault s ≡ fine → rising 0 (columnsIn
 offered s js f r = record { file = file-fine s f; rises = r }
 
 module _ (s js : List ℕ) (o : Offered s js) where
-  -- each body rises within 64 rows
-  pub body-rises : (j : ℕ) → rising 0 64 (body (fileMatrix s) j) ≡ true
-  unfolding instance rowsFault
-  body-rises j =
-      rising-wider 0 (rowsIn s) 64 _ (bodies-rise (rowsIn s) (bodies (parse s .lengths) (parse s .numbers)) j (o .file .rising)) (o .file .walked .header .counts .rows .most)
-
   pub few : length js ≤ 256
   few = omega (arith, rising-short 0 (columnsIn s) js (o .rises) (omega arith), o .file .walked .header .counts .columns .most)
 
@@ -57,10 +51,7 @@ module _ (s js : List ℕ) (o : Offered s js) where
     -- its body is the part of the file from its start for its length
     pub part-here : (e : Entry) → e ≡ entryOf (drop (bodiesAt (getD js k 0 - 1)) s) →
         take (e .start + e .size - e .start) (drop (e .start) s) ≡ body (fileMatrix s) (getD js k 0 - 1)
-    unfolding instance
-    part-here e is =
-        let z : e .start + e .size - e .start ≡ e .size = omega arith in
-        rw z (sym (column-here e is .body))
+    part-here e is = part-is s (o .file) (getD js k 0 - 1) e (omega (arith, number-low, number-high)) is
 
 -- at place k, with the rows of the columns before it counted
 pub record Covering (s js out : List ℕ) (k : ℕ) : Type 0 where
@@ -84,7 +75,7 @@ module _ (s js : List ℕ) where
       pub covering-ready : ((length out ≡ 64) × (rising 0 64 (take (e .start + e .size - e .start) (drop (e .start) s)) ≡ true))
           × ((i : ℕ) → getD out i 0 + length (take (e .start + e .size - e .start) (drop (e .start) s)) < 4294967296)
       covering-ready =
-          let r = body-rises s js (w .offer) (getD js k 0 - 1) in
+          let r = body-rises s (w .offer .file) (getD js k 0 - 1) in
           rw (part-here s js (w .offer) k inside e is)
           ((w .sized, r), λ i. omega (arith, w .room i, few s js (w .offer), rising-short 0 64 _ r (omega arith)))
 
@@ -97,7 +88,7 @@ module _ (s js : List ℕ) where
             offer = w .offer;
             sized = rw n (length-counted b out ∙ w .sized);
             within = omega arith;
-            room = λ i. rw n (omega (arith, counted-le b out i (body-rises s js (w .offer) (getD js k 0 - 1)) (w .sized), w .room i));
+            room = λ i. rw n (omega (arith, counted-le b out i (body-rises s (w .offer .file) (getD js k 0 - 1)) (w .sized), w .room i));
             left = rw n (rw (drop-step js k inside) at (w .left));
           }
 

@@ -1,0 +1,2 @@
+mod Moves
+pub mod Ways

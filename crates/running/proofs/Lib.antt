@@ -1,0 +1,4 @@
+mod Sums
+mod Tally
+pub mod Recounted
+pub mod Running
