@@ -1,12 +1,14 @@
 /*
  * A desk plug-in: reads a duty file, searches for the cheapest plan, or for the one whose longest duty is cheapest, checks it and prints
  * the roster. The numbers after `agreed` are those of duties that must be in the plan, and after `absent` of duties that must not be; both
- * rise.
+ * rise. With `drag` it makes an empty desk over the file, puts duty N in at +N and takes it out at -N, and says after each such step whether
+ * the duties in are a plan.
  *
  *     gcc -Iinclude examples/desk.c target/staticlib/libspp.a -o desk
  *     ./desk FILE [ALLOWANCE [sum|longest [agreed N..] [absent N..]]]
+ *     ./desk FILE drag [+N|-N]..
  *
- * Exit status: 0 with a roster, 1 if there is no plan to show, 2 with an error.
+ * Exit status: 0 with a roster, or with a plan on the desk at the end; 1 if there is no plan to show; 2 with an error.
  */
 #include <errno.h>
 #include <stdio.h>
@@ -31,6 +33,7 @@ struct numbers {
     size_t count;
 };
 
+/* The first refusals, each at the place of its number. */
 static const char *const reasons[] = {
     "accepted",
     "not a duty file (it has under 8 bytes or does not begin with SPP1)",
@@ -54,10 +57,19 @@ static const char *reason(uint32_t refusal) {
     if (refusal < sizeof reasons / sizeof *reasons) {
         return reasons[refusal];
     }
-    return refusal == SPP_OVERLAP ? "two lent lists overlap" : "a null pointer was lent";
+    switch (refusal) {
+    case SPP_NO_COLUMN:
+        return "the duty number is out of range";
+    case SPP_OVERLAP:
+        return "two lent lists overlap";
+    default:
+        return "a null pointer was lent";
+    }
 }
 
+/* Prints a refusal behind the lines printed before. */
 static int refused(const char *call, uint32_t refusal) {
+    fflush(stdout);
     fprintf(stderr, "desk: %s refused, %u: %s\n", call, (unsigned)refusal, reason(refusal));
     return 2;
 }
@@ -157,6 +169,18 @@ static unsigned long number_of(const char *text, unsigned long most, unsigned lo
 
 static int usage(void) {
     fprintf(stderr, "usage: desk FILE [ALLOWANCE [sum|longest [agreed N..] [absent N..]]]\n");
+    fprintf(stderr, "       desk FILE drag [+N|-N]..\n");
+    return 2;
+}
+
+/* A text as a duty number, which may be out of range; NO_DUTY for any other text. */
+#define NO_DUTY (UINT16_MAX + 1ul)
+static unsigned long duty_of(const char *text) {
+    return number_of(text, UINT16_MAX, NO_DUTY);
+}
+
+static int no_duty(const char *word) {
+    fprintf(stderr, "desk: %s is not a duty number\n", word);
     return 2;
 }
 
@@ -164,16 +188,15 @@ static int usage(void) {
 static int read_lists(char **words, struct numbers *agreed, struct numbers *absent) {
     struct numbers *numbers = NULL;
     for (; *words; words++) {
-        unsigned long number = number_of(*words, UINT16_MAX, UINT16_MAX + 1ul);
+        unsigned long number = duty_of(*words);
         if (!strcmp(*words, "agreed")) {
             numbers = agreed;
         } else if (!strcmp(*words, "absent")) {
             numbers = absent;
         } else if (!numbers) {
             return usage();
-        } else if (number > UINT16_MAX) {
-            fprintf(stderr, "desk: %s is not a duty number\n", *words);
-            return 2;
+        } else if (number == NO_DUTY) {
+            return no_duty(*words);
         } else if (numbers->count <= SPP_MOST_COLUMNS) {
             numbers->list[numbers->count++] = (uint16_t)number;
         }
@@ -181,8 +204,74 @@ static int read_lists(char **words, struct numbers *agreed, struct numbers *abse
     return 0;
 }
 
-int main(int count, char **words) {
-    static struct duties duties;
+/* Looks at the words of steps, up to a null pointer: each is a sign and a duty number. */
+static int read_steps(char **words) {
+    for (; *words; words++) {
+        if (**words != '+' && **words != '-') {
+            return usage();
+        }
+        if (duty_of(*words + 1) == NO_DUTY) {
+            return no_duty(*words);
+        }
+    }
+    return 0;
+}
+
+/* Prints what the desk replies; gives the exit status. */
+static int print_reply(const struct spp_desk *desk) {
+    struct spp_reply reply = spp_desk_reply(desk);
+    if (reply.is_plan) {
+        printf("a plan, price %ld\n", (long)reply.price);
+    } else {
+        printf("no plan\n");
+    }
+    return reply.is_plan ? 0 : 1;
+}
+
+/* Makes the step of a word and prints what it came to, or its refusal; 0 with a refusal. */
+static int make_step(const struct duties *duties, const char *word, struct spp_desk *desk) {
+    int in = *word == '+';
+    uint32_t column = (uint32_t)duty_of(word + 1);
+    struct spp_step step = (in ? spp_desk_add : spp_desk_remove)(duties->file, duties->length, column, desk);
+    char call[32];
+    if (step.refusal) {
+        snprintf(call, sizeof call, "the step %c%u", *word, (unsigned)column);
+        refused(call, step.refusal);
+    } else if (step.changed) {
+        printf("duty %u %s: ", (unsigned)column, in ? "in" : "out");
+    } else {
+        printf("duty %u %s: ", (unsigned)column, in ? "is in already" : "is not in");
+    }
+    return !step.refusal;
+}
+
+/* Makes the steps of the words from an empty desk. A refused step leaves the desk as it was, and the next one follows. */
+static int drag(const struct duties *duties, char **words) {
+    struct spp_desk desk;
+    uint32_t refusal = spp_desk_empty(duties->file, duties->length, &desk);
+    int status;
+    if (refusal) {
+        return refused("the empty desk", refusal);
+    }
+    printf("empty desk: ");
+    status = print_reply(&desk);
+    for (; *words; words++) {
+        if (make_step(duties, *words, &desk)) {
+            status = print_reply(&desk);
+        }
+    }
+    return status;
+}
+
+/* The file, and steps. */
+static int drag_by_words(struct duties *duties, char **words) {
+    int failed = read_steps(words + 3);
+    failed = failed ? failed : load(words[1], duties);
+    return failed ? failed : drag(duties, words + 3);
+}
+
+/* The file, and perhaps an allowance, a goal and lists. */
+static int solve_by_words(struct duties *duties, int count, char **words) {
     static struct numbers agreed, absent;
     struct spp_lists lists;
     uint32_t node_limit = SPP_MOST_NODES;
@@ -195,7 +284,7 @@ int main(int count, char **words) {
         node_limit = (uint32_t)number_of(words[2], SPP_MOST_NODES, 0);
     }
     failed = count > 4 ? read_lists(words + 4, &agreed, &absent) : 0;
-    failed = failed ? failed : load(words[1], &duties);
+    failed = failed ? failed : load(words[1], duties);
     if (failed) {
         return failed;
     }
@@ -204,5 +293,11 @@ int main(int count, char **words) {
     lists.agreed_count = agreed.count;
     lists.absent = absent.list;
     lists.absent_count = absent.count;
-    return solve(&duties, node_limit, longest, &lists);
+    return solve(duties, node_limit, longest, &lists);
+}
+
+int main(int count, char **words) {
+    static struct duties duties;
+    int dragging = count > 2 && !strcmp(words[2], "drag");
+    return dragging ? drag_by_words(&duties, words) : solve_by_words(&duties, count, words);
 }

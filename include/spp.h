@@ -2,12 +2,12 @@
  * Crew plans from a duty file, and crews onto vessels: the C interface of the engine.
  *
  * Link with target/staticlib/libspp.a, which `rt staticlib spp` builds. Call the functions at the end of this file, spp_read to
- * spp_uncrewed. They refuse lists of which any two overlap, two that are only read among them, and null pointers, before the engine is
+ * spp_desk_reply. They refuse lists of which any two overlap, two that are only read among them, and null pointers, before the engine is
  * entered; the functions spp_core_.. are the engine itself, which takes for granted that no two lists overlap and that no pointer is
  * null.
  *
  * A row is a sailing, a column a duty; both are numbered from 1. A list is lent as a pointer and the number of its places. A call that
- * refuses writes to no list. Places beyond what is filled keep their contents. Fields that a case does not use are 0.
+ * refuses writes to no list and to no desk. Places beyond what is filled keep their contents. Fields that a case does not use are 0.
  */
 #ifndef SPP_H
 #define SPP_H
@@ -54,7 +54,8 @@ extern "C" {
 #define SPP_BAD_TABLE 16      /* the table has no crews, above 16 crews or vessels, or more crews than vessels */
 #define SPP_BAD_TABLE_COST 17 /* a cost in the table is above 1,000,000 */
 #define SPP_MANY_COLUMNS 18   /* the file has more columns than spp_uncrewed takes, 192 */
-#define SPP_OVERLAP 100       /* two lent lists overlap, or a list reaches beyond the address space */
+#define SPP_NO_COLUMN 19      /* the column number is out of range */
+#define SPP_OVERLAP 100       /* two lent lists, structs or tables overlap, or a list reaches beyond the address space */
 #define SPP_NULL 101          /* a null pointer was lent with a number of places above 0, or for a struct or a table */
 
 /*
@@ -148,6 +149,31 @@ struct spp_uncrewed {
     uint32_t columns; /* with SPP_NO_CREW: number of columns shown, filled in at the front of the list */
 };
 
+/*
+ * A desk: which columns are in, and what is kept of them. spp_desk_empty fills in all of it, and steps change it. It may be copied, and
+ * only the functions below need its fields. The numbers wrap at 32 bits; by steps over the file that the desk was made over they never get
+ * that far.
+ */
+struct spp_desk {
+    uint8_t marks[SPP_MOST_COLUMNS]; /* for each column: 0 if it is not in, any other value if it is in */
+    uint32_t covered[SPP_MOST_ROWS]; /* for each row: how often it is covered */
+    uint32_t off;                    /* number of rows that are not covered exactly once */
+    int32_t total;                   /* sum of the costs of the columns in */
+};
+
+/* What a step came to. */
+struct spp_step {
+    uint32_t refusal; /* 0, or why no step was made */
+    uint32_t changed; /* 1, or 0 if the column to add was in already or the one to remove was not in */
+};
+
+/* What a desk replies. */
+struct spp_reply {
+    uint32_t refusal; /* 0, or SPP_NULL */
+    uint32_t is_plan; /* 1 if the columns in are a plan, else 0 */
+    int32_t price;    /* with a plan: the sum of its costs */
+};
+
 /* The engine. No two lists of a call may overlap and no pointer may be null, not even for an empty list. */
 struct spp_shape spp_core_read(const uint8_t *file, size_t file_count, uint32_t *costs, size_t cost_count,
                                uint16_t *lengths, size_t length_count, uint8_t *rows, size_t row_count);
@@ -167,11 +193,22 @@ struct spp_assigned spp_core_assign(size_t crews, size_t vessels, const uint32_t
                                     size_t answer_count);
 struct spp_uncrewed spp_core_uncrewed(const uint8_t *file, size_t file_count, uint32_t node_limit, uint16_t *shown,
                                       size_t shown_count);
+uint32_t spp_core_desk_empty(const uint8_t *file, size_t file_count, uint8_t *marks, uint32_t *covered, uint32_t *off,
+                             int32_t *total);
+struct spp_step spp_core_desk_add(const uint8_t *file, size_t file_count, uint32_t column, uint8_t *marks,
+                                  uint32_t *covered, uint32_t *off, int32_t *total);
+struct spp_step spp_core_desk_remove(const uint8_t *file, size_t file_count, uint32_t column, uint8_t *marks,
+                                     uint32_t *covered, uint32_t *off, int32_t *total);
+struct spp_reply spp_core_desk_reply(uint32_t off, int32_t total);
 
 /* One of the engine's two searches. */
 typedef struct spp_answer (*spp_core_call)(const uint8_t *file, size_t file_count, uint32_t node_limit,
                                            const uint16_t *agreed, size_t agreed_count, const uint16_t *absent,
                                            size_t absent_count, uint16_t *plan, size_t plan_count);
+
+/* One of the engine's two steps of a desk. */
+typedef struct spp_step (*spp_core_step)(const uint8_t *file, size_t file_count, uint32_t column, uint8_t *marks,
+                                         uint32_t *covered, uint32_t *off, int32_t *total);
 
 #ifdef __cplusplus
 }
@@ -394,6 +431,60 @@ static inline struct spp_uncrewed spp_uncrewed(const uint8_t *file, size_t file_
         return refused;
     }
     return spp_core_uncrewed(file ? file : &no_file, file_count, node_limit, shown ? shown : &no_column, shown_count);
+}
+
+/* The refusal for a file and a desk, which is a list of one place. */
+static inline uint32_t spp_guard_desk(const uint8_t *file, size_t file_count, const struct spp_desk *desk) {
+    const struct spp_list lists[2] = {{file, file_count, sizeof *file}, {desk, 1, sizeof *desk}};
+    return spp_guard(lists, 2);
+}
+
+/* A step by the engine's call, with its file and desk guarded. */
+static inline struct spp_step spp_guarded_step(spp_core_step call, const uint8_t *file, size_t file_count, uint32_t column,
+                                               struct spp_desk *desk) {
+    struct spp_step refused = {0, 0};
+    uint8_t no_file = 0;
+    refused.refusal = spp_guard_desk(file, file_count, desk);
+    if (refused.refusal) {
+        return refused;
+    }
+    return call(file ? file : &no_file, file_count, column, desk->marks, desk->covered, &desk->off, &desk->total);
+}
+
+/*
+ * Makes an empty desk over the file, which is tested as the reader tests it: no column is in, and all of its rows are off. Gives the
+ * refusal, 0 if the desk was made.
+ */
+static inline uint32_t spp_desk_empty(const uint8_t *file, size_t file_count, struct spp_desk *desk) {
+    uint32_t refusal = spp_guard_desk(file, file_count, desk);
+    uint8_t no_file = 0;
+    if (refusal) {
+        return refusal;
+    }
+    return spp_core_desk_empty(file ? file : &no_file, file_count, desk->marks, desk->covered, &desk->off, &desk->total);
+}
+
+/*
+ * Adds a column of the file to the desk, unless it is in already. The file is tested as the reader tests it, then the column number.
+ * The step goes by the rows and the cost of this column alone.
+ */
+static inline struct spp_step spp_desk_add(const uint8_t *file, size_t file_count, uint32_t column, struct spp_desk *desk) {
+    return spp_guarded_step(spp_core_desk_add, file, file_count, column, desk);
+}
+
+/* Removes a column of the file from the desk, if it is in; all else is as for spp_desk_add. */
+static inline struct spp_step spp_desk_remove(const uint8_t *file, size_t file_count, uint32_t column,
+                                              struct spp_desk *desk) {
+    return spp_guarded_step(spp_core_desk_remove, file, file_count, column, desk);
+}
+
+/*
+ * Replies whether the columns in are a plan, and at which price, from `off` and `total` alone. With all steps over the file that the
+ * desk was made over, the reply is what spp_check finds of the columns in.
+ */
+static inline struct spp_reply spp_desk_reply(const struct spp_desk *desk) {
+    const struct spp_reply refused = {SPP_NULL, 0, 0};
+    return desk ? spp_core_desk_reply(desk->off, desk->total) : refused;
 }
 
 #endif

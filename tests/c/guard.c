@@ -1,7 +1,7 @@
 /*
  * The guards of include/spp.h: lists that overlap and null pointers are refused before the engine is entered, and nothing is touched.
  * Each case lends every call's lists at chosen places of one block of memory. The struct of the searches with lists stands in the block
- * too, as the last list of the call, with one place. It and the table of crews against vessels are lent without a count.
+ * too, as the last list of the call, with one place. It, the table of crews against vessels and the desk are lent without a count.
  */
 #include <stdio.h>
 #include <string.h>
@@ -13,14 +13,32 @@
 #define MOST_LISTS 5
 #define STRUCT 4 /* the place of the struct among the lists of a search with lists */
 #define TABLE 0  /* the place of the table among the lists of spp_assign */
+#define DESK 1   /* the place of the desk among the lists of a call on a desk */
 #define PLACES (SPP_MOST_CREWS * SPP_MOST_VESSELS)
 
-enum call { READ, WRITE, CHECK, REDUCE, SEARCH, LONGEST, SEARCH_WITH, LONGEST_WITH, ASSIGN, UNCREWED };
-static const char *const call_names[] = {"spp_read",    "spp_write",       "spp_check",        "spp_reduce", "spp_search",
-                                         "spp_longest", "spp_search_with", "spp_longest_with", "spp_assign", "spp_uncrewed"};
+enum call {
+    READ,
+    WRITE,
+    CHECK,
+    REDUCE,
+    SEARCH,
+    LONGEST,
+    SEARCH_WITH,
+    LONGEST_WITH,
+    ASSIGN,
+    UNCREWED,
+    DESK_EMPTY,
+    DESK_ADD,
+    DESK_REMOVE,
+    DESK_REPLY /* takes no list */
+};
+static const char *const call_names[] = {"spp_read",        "spp_write",     "spp_check",       "spp_reduce",
+                                         "spp_search",      "spp_longest",   "spp_search_with", "spp_longest_with",
+                                         "spp_assign",      "spp_uncrewed",  "spp_desk_empty",  "spp_desk_add",
+                                         "spp_desk_remove", "spp_desk_reply"};
 
 /* The lists of each call: how many, and the bytes of one place. */
-static const size_t list_counts[] = {4, 4, 2, 3, 2, 2, 5, 5, 2, 2};
+static const size_t list_counts[] = {4, 4, 2, 3, 2, 2, 5, 5, 2, 2, 2, 2, 2};
 static const size_t place_sizes[][MOST_LISTS] = {{1, 4, 2, 1, 0},
                                                  {4, 2, 1, 1, 0},
                                                  {1, 2, 0, 0, 0},
@@ -30,7 +48,10 @@ static const size_t place_sizes[][MOST_LISTS] = {{1, 4, 2, 1, 0},
                                                  {1, 2, 2, 2, sizeof(struct spp_lists)},
                                                  {1, 2, 2, 2, sizeof(struct spp_lists)},
                                                  {4, 1, 0, 0, 0},
-                                                 {1, 2, 0, 0, 0}};
+                                                 {1, 2, 0, 0, 0},
+                                                 {1, sizeof(struct spp_desk), 0, 0, 0},
+                                                 {1, sizeof(struct spp_desk), 0, 0, 0},
+                                                 {1, sizeof(struct spp_desk), 0, 0, 0}};
 
 /* Example 1 of the paper, which is example 7 too: 5 rows, 8 columns, 13 entries. */
 static const uint32_t costs[8] = {3, 7, 5, 8, 10, 4, 6, 9};
@@ -109,6 +130,12 @@ static uint32_t refusal_of(enum call call, const struct lent *l) {
         return spp_uncrewed((uint8_t *)l[0].start, l[0].count, 1000, (uint16_t *)l[1].start, l[1].count).refusal;
     case ASSIGN:
         return spp_assign(5, 5, (uint32_t *)l[TABLE].start, (uint8_t *)l[1].start, l[1].count).refusal;
+    case DESK_EMPTY:
+        return spp_desk_empty((uint8_t *)l[0].start, l[0].count, (struct spp_desk *)l[DESK].start);
+    case DESK_ADD:
+        return spp_desk_add((uint8_t *)l[0].start, l[0].count, 2, (struct spp_desk *)l[DESK].start).refusal;
+    case DESK_REMOVE:
+        return spp_desk_remove((uint8_t *)l[0].start, l[0].count, 2, (struct spp_desk *)l[DESK].start).refusal;
     default:
         return (call == SEARCH_WITH ? spp_search_with : spp_longest_with)((uint8_t *)l[0].start, l[0].count, 1000,
                                                                           (struct spp_lists *)l[STRUCT].start,
@@ -134,9 +161,14 @@ static int has_struct(enum call call) {
     return list_counts[call] > STRUCT;
 }
 
-/* The place of the list that is lent without a count, the struct or the table; MOST_LISTS for none. */
+/* Whether the call takes a desk and a file. */
+static int has_desk(enum call call) {
+    return call == DESK_EMPTY || call == DESK_ADD || call == DESK_REMOVE;
+}
+
+/* The place of the list that is lent without a count, the struct, the table or the desk; MOST_LISTS for none. */
 static size_t uncounted(enum call call) {
-    return call == ASSIGN ? TABLE : has_struct(call) ? STRUCT : MOST_LISTS;
+    return call == ASSIGN ? TABLE : has_desk(call) ? DESK : has_struct(call) ? STRUCT : MOST_LISTS;
 }
 
 /* Puts the agreed and absent lists that are lent into the struct that is lent. */
@@ -152,7 +184,8 @@ static void lend(enum call call, struct lent *l) {
     static const size_t counts[][MOST_LISTS] = {{85, 8, 8, 13, 0}, {8, 8, 13, 85, 0}, {85, 3, 0, 0, 0},
                                                 {85, 8, 5, 0, 0},  {85, 5, 0, 0, 0},  {85, 5, 0, 0, 0},
                                                 {85, 1, 1, 5, 1},  {85, 1, 1, 5, 1},  {PLACES, 8, 0, 0, 0},
-                                                {85, 5, 0, 0, 0}};
+                                                {85, 5, 0, 0, 0},  {85, 1, 0, 0, 0},  {85, 1, 0, 0, 0},
+                                                {85, 1, 0, 0, 0}};
     size_t i;
     for (i = 0; i < BLOCK; i++) {
         block.bytes[i] = (uint8_t)(i * 5 + 77);
@@ -247,9 +280,9 @@ static void null_uncounted(enum call call) {
     struct lent l[MOST_LISTS];
     lend(call, l);
     l[uncounted(call)].start = NULL;
-    refuses(call, l, SPP_NULL, "a null pointer for the struct or the table");
+    refuses(call, l, SPP_NULL, "a null pointer for the struct, the table or the desk");
     make_empty(call, l);
-    refuses(call, l, SPP_NULL, "a null pointer for the struct or the table, and all lists null and empty");
+    refuses(call, l, SPP_NULL, "a null pointer for the struct, the table or the desk, and all lists null and empty");
 }
 
 /* Null pointers, with and without a count, and counts beyond the address space. */
@@ -457,6 +490,134 @@ static void accepted_uncrewed(void) {
     tries(other, count, 1, 2, stopped, "two columns on row 1, node limit 1");
 }
 
+/* A file at an offset from the desk's first byte, and the refusal, 0 for none. */
+static const struct {
+    ptrdiff_t offset;
+    size_t count;
+    uint32_t refusal;
+    const char *what;
+} file_places[] = {
+    {-85, 85, SPP_ACCEPTED, "a file that ends where the desk starts"},
+    {-84, 85, SPP_OVERLAP, "a file that ends with the desk's first byte"},
+    {-1, 85, SPP_OVERLAP, "a file that starts a byte before the desk"},
+    {0, 1, SPP_OVERLAP, "a file of the desk's first byte"},
+    {255, 85, SPP_OVERLAP, "a file inside the desk"},
+    {-85, 700, SPP_OVERLAP, "a file about the desk"},
+    {519, 1, SPP_OVERLAP, "a file of the desk's last byte"},
+    {519, 85, SPP_OVERLAP, "a file that starts with the desk's last byte"},
+    {520, 85, SPP_ACCEPTED, "a file that starts where the desk ends"},
+    {0, 0, SPP_BAD_MARK, "an empty file at the desk's first byte"},
+    {300, 0, SPP_BAD_MARK, "an empty file inside the desk"},
+    {520, 0, SPP_BAD_MARK, "an empty file where the desk ends"},
+};
+
+/* Files that share bytes with the desk, and others beside it and empty. What is accepted writes to the desk alone. */
+static void files_about_desk(enum call call) {
+    struct lent l[MOST_LISTS];
+    size_t i;
+    for (i = 0; i < sizeof file_places / sizeof *file_places; i++) {
+        lend(call, l);
+        l[0].start = (uint8_t *)l[DESK].start + file_places[i].offset;
+        l[0].count = file_places[i].count;
+        if (file_places[i].refusal) {
+            refuses(call, l, file_places[i].refusal, file_places[i].what);
+            continue;
+        }
+        memcpy(l[0].start, file, sizeof file);
+        before = block;
+        holds(refusal_of(call, l) == SPP_ACCEPTED, call, file_places[i].what);
+        memcpy(before.bytes + ((uint8_t *)l[DESK].start - block.bytes), l[DESK].start, sizeof(struct spp_desk));
+        holds(memcmp(&before, &block, sizeof block) == 0, call, "all but the desk as it was");
+    }
+    lend(call, l);
+    l[0].start = NULL;
+    l[0].count = 0;
+    refuses(call, l, SPP_BAD_MARK, "a null pointer for a file of no bytes");
+}
+
+/* The desk over example 1 that has these columns in, counted from them. */
+static struct spp_desk desk_with(const uint16_t *columns, size_t count) {
+    struct spp_desk desk;
+    size_t i, j, start;
+    memset(&desk, 0, sizeof desk);
+    for (i = 0; i < count; i++) {
+        for (start = 0, j = 0; j + 1 < columns[i]; j++) {
+            start += lengths[j];
+        }
+        for (j = 0; j < lengths[columns[i] - 1]; j++) {
+            desk.covered[rows[start + j] - 1]++;
+        }
+        desk.marks[columns[i] - 1] = 1;
+        desk.total += (int32_t)costs[columns[i] - 1];
+    }
+    for (i = 0; i < 5; i++) {
+        desk.off += desk.covered[i] != 1;
+    }
+    return desk;
+}
+
+/* A step through the header and the same by the engine: the stated answer, and the desk that has these columns in. */
+static void steps_to(enum call call, struct spp_desk *desk, uint32_t column, struct spp_step wanted,
+                     const uint16_t *columns, size_t count, const char *what) {
+    struct spp_desk by_core = *desk, counted = desk_with(columns, count);
+    struct spp_step a = (call == DESK_ADD ? spp_desk_add : spp_desk_remove)(file, sizeof file, column, desk);
+    struct spp_step b = (call == DESK_ADD ? spp_core_desk_add : spp_core_desk_remove)(
+        file, sizeof file, column, by_core.marks, by_core.covered, &by_core.off, &by_core.total);
+    holds(a.refusal == wanted.refusal && a.changed == wanted.changed, call, what);
+    holds(b.refusal == wanted.refusal && b.changed == wanted.changed, call, what);
+    holds(!memcmp(desk, &counted, sizeof counted) && !memcmp(&by_core, &counted, sizeof counted), call, what);
+}
+
+/* The stated reply to these two numbers. Nothing else of the desk is read. */
+static void replies(uint32_t off, int32_t total, struct spp_reply wanted, const char *what) {
+    struct spp_desk desk;
+    struct spp_reply a, b;
+    memset(&desk, 0xa5, sizeof desk);
+    desk.off = off;
+    desk.total = total;
+    a = spp_desk_reply(&desk);
+    b = spp_core_desk_reply(off, total);
+    holds(a.refusal == wanted.refusal && a.is_plan == wanted.is_plan && a.price == wanted.price, DESK_REPLY, what);
+    holds(b.refusal == wanted.refusal && b.is_plan == wanted.is_plan && b.price == wanted.price, DESK_REPLY, what);
+}
+
+/* Replies of desks that have a number of their own in each field of the struct, and of no desk. */
+static void accepted_replies(void) {
+    const struct spp_reply no_plan = {SPP_ACCEPTED, 0, 0}, planned = {SPP_ACCEPTED, 1, 17}, below = {SPP_ACCEPTED, 1, -17};
+    struct spp_reply refused = spp_desk_reply(NULL);
+    holds(refused.refusal == SPP_NULL && refused.is_plan == 0 && refused.price == 0, DESK_REPLY, "a null pointer");
+    replies(0, 17, planned, "no row off");
+    replies(0, -17, below, "no row off, a total below 0");
+    replies(1, 17, no_plan, "a row off");
+    replies(UINT32_MAX, 17, no_plan, "as many rows off as the field can say");
+}
+
+/* A desk over example 1 through the header: its best plan goes in, a column beside it in and out, with steps that change nothing. */
+static void accepted_desk(void) {
+    static const uint16_t in[4] = {1, 4, 7, 2};
+    const struct spp_step changed = {SPP_ACCEPTED, 1}, idle = {SPP_ACCEPTED, 0}, no_column = {SPP_NO_COLUMN, 0};
+    struct spp_desk desk, other, empty = desk_with(in, 0);
+    uint32_t refusal;
+    memset(&desk, 0xa5, sizeof desk);
+    memset(&other, 0x5a, sizeof other);
+    refusal = spp_core_desk_empty(file, sizeof file, other.marks, other.covered, &other.off, &other.total);
+    holds(refusal == 0 && spp_desk_empty(file, sizeof file, &desk) == 0, DESK_EMPTY, "example 1");
+    holds(!memcmp(&desk, &empty, sizeof desk) && !memcmp(&other, &empty, sizeof desk), DESK_EMPTY, "all fields filled in");
+    steps_to(DESK_REMOVE, &desk, 1, idle, in, 0, "a column that is not in");
+    steps_to(DESK_ADD, &desk, 1, changed, in, 1, "the first column of the plan");
+    steps_to(DESK_ADD, &desk, 4, changed, in, 2, "the second column of the plan");
+    steps_to(DESK_ADD, &desk, 7, changed, in, 3, "the last column of the plan");
+    holds(spp_desk_reply(&desk).is_plan == 1 && spp_desk_reply(&desk).price == 17, DESK_REPLY, "the plan of example 1");
+    steps_to(DESK_ADD, &desk, 7, idle, in, 3, "a column that is in");
+    steps_to(DESK_ADD, &desk, 2, changed, in, 4, "a column beside the plan");
+    holds(spp_desk_reply(&desk).is_plan == 0 && spp_desk_reply(&desk).price == 0, DESK_REPLY, "a column beside the plan");
+    steps_to(DESK_ADD, &desk, 9, no_column, in, 4, "column 9 of 8");
+    steps_to(DESK_REMOVE, &desk, 0, no_column, in, 4, "column 0");
+    steps_to(DESK_REMOVE, &desk, UINT32_MAX, no_column, in, 4, "the largest number");
+    steps_to(DESK_REMOVE, &desk, 2, changed, in, 3, "the column beside the plan");
+    accepted_replies();
+}
+
 /* Accepted calls through the header: stated values. */
 static void accepted(void) {
     uint32_t read_costs[8], reduced[8];
@@ -478,6 +639,7 @@ static void accepted(void) {
     accepted_lists(LONGEST_WITH, 7);
     accepted_assign();
     accepted_uncrewed();
+    accepted_desk();
 }
 
 int main(void) {
@@ -486,11 +648,14 @@ int main(void) {
     holds(written.refusal == 0 && written.length == sizeof file, WRITE, "example 1");
     fill_table();
     accepted();
-    for (call = READ; call <= UNCREWED; call++) {
+    for (call = READ; call < DESK_REPLY; call++) {
         pairs((enum call)call);
         nulls((enum call)call);
     }
     answers_about_table();
+    for (call = DESK_EMPTY; call < DESK_REPLY; call++) {
+        files_about_desk((enum call)call);
+    }
     printf("%9lu  cases of the header's guards compared, %lu differences\n", cases, differences);
     return differences != 0;
 }

@@ -11,6 +11,10 @@ typedef struct spp_assigned (*assign)(size_t, size_t, const uint32_t *, uint8_t 
 const assign spp_header_assigns[2] = {spp_assign, spp_core_assign};
 typedef struct spp_uncrewed (*uncrewed)(const uint8_t *, size_t, uint32_t, uint16_t *, size_t);
 const uncrewed spp_header_uncrewed[2] = {spp_uncrewed, spp_core_uncrewed};
+/* Both steps are called alike, and so are the engine's. */
+typedef struct spp_step (*step)(const uint8_t *, size_t, uint32_t, struct spp_desk *);
+const step spp_header_steps[2] = {spp_desk_add, spp_desk_remove};
+const spp_core_step spp_header_core_steps[2] = {spp_core_desk_add, spp_core_desk_remove};
 
 /* The layout of struct spp_lists, as a type that is in error if it differs: four fields without a gap. */
 #define WORDS_BEFORE(field) (offsetof(struct spp_lists, field) / sizeof(size_t))
@@ -34,6 +38,24 @@ typedef char spp_header_uncrewed_layout[WORDS_OF_UNCREWED(refusal) == 0 && WORDS
                                                 sizeof(struct spp_uncrewed) == 16
                                             ? 1
                                             : -1];
+
+/* The layout of struct spp_desk, in the same way: 256 bytes, 64 times 4, and twice 4, without a gap. */
+#define BYTES_OF_DESK(field) offsetof(struct spp_desk, field)
+typedef char spp_header_desk_layout[BYTES_OF_DESK(marks) == 0 && BYTES_OF_DESK(covered) == 256 &&
+                                            BYTES_OF_DESK(off) == 512 && BYTES_OF_DESK(total) == 516 &&
+                                            sizeof(struct spp_desk) == 520
+                                        ? 1
+                                        : -1];
+
+/* The layouts of struct spp_step and struct spp_reply, in the same way: twice and three times 4 bytes. */
+typedef char spp_header_step_layout[offsetof(struct spp_step, refusal) == 0 && offsetof(struct spp_step, changed) == 4 &&
+                                            sizeof(struct spp_step) == 8
+                                        ? 1
+                                        : -1];
+typedef char spp_header_reply_layout[offsetof(struct spp_reply, refusal) == 0 && offsetof(struct spp_reply, is_plan) == 4 &&
+                                             offsetof(struct spp_reply, price) == 8 && sizeof(struct spp_reply) == 12
+                                         ? 1
+                                         : -1];
 
 int spp_header_compiles(void) {
     return SPP_ACCEPTED;

@@ -78,3 +78,20 @@ pub struct Uncrewed {
     pub row: u32,
     pub columns: u32,
 }
+
+/// What a step of a desk came to.
+#[repr(C)]
+#[derive(Clone, Copy, Debug, Default, PartialEq, Eq)]
+pub struct Step {
+    pub refusal: u32,
+    pub changed: u32,
+}
+
+/// What a desk replies.
+#[repr(C)]
+#[derive(Clone, Copy, Debug, Default, PartialEq, Eq)]
+pub struct Reply {
+    pub refusal: u32,
+    pub is_plan: u32,
+    pub price: i32,
+}

@@ -3,8 +3,10 @@
 
 use std::hint::black_box;
 
-use spp_tests::answers::{Answer, Assigned, Checked, Reduced, Shape, Uncrewed, Written};
+use spp_tests::answers::{Answer, Assigned, Checked, Reduced, Reply, Shape, Step, Uncrewed, Written};
+use spp_tests::desk::{Desk, Way, MOST_COLUMNS, MOST_ROWS};
 use spp_tests::goal::Goal;
+use spp_tests::plain::Recount;
 use spp_tests::requests::Requests;
 use spp_tests::table::{Costs, Table};
 use spp_tests::{engine, plain};
@@ -182,6 +184,80 @@ pub fn uncrewed(report: &mut Report, file: &[u8], limit: u32, room: usize) -> (U
     (found.0, list[..count].to_vec())
 }
 
+/// Desks of which each place holds a pattern of its own.
+fn desks() -> Lent<Desk> {
+    Lent::new(1, |place| Desk {
+        marks: std::array::from_fn(|column| (column * 7 + place) as u8),
+        covered: std::array::from_fn(|row| (row * 13 + place) as u32),
+        off: place as u32 + 300,
+        total: -(place as i32) - 5,
+    })
+}
+
+/// Where two desks differ, as text.
+pub fn differences(found: &Desk, wanted: &Desk) -> Vec<String> {
+    let mut all = Vec::new();
+    if found == wanted {
+        return all;
+    }
+    let mut compare = |what: String, found: i64, wanted: i64| {
+        if found != wanted {
+            all.push(format!("{what}: {found}, wanted {wanted}"));
+        }
+    };
+    compare("sailings off".into(), found.off.into(), wanted.off.into());
+    compare("total".into(), found.total.into(), wanted.total.into());
+    for row in 0..MOST_ROWS {
+        compare(format!("sailing {} covered", row + 1), found.covered[row].into(), wanted.covered[row].into());
+    }
+    for column in 0..MOST_COLUMNS {
+        compare(format!("mark of duty {}", column + 1), found.marks[column].into(), wanted.marks[column].into());
+    }
+    all
+}
+
+/// A call of the engine on a desk that stands between others, with the file inside a longer list: the answer, and what else was touched.
+fn on_desk<T>(file: &[u8], desk: &mut Desk, call: impl FnOnce(&[u8], &mut Desk) -> T) -> (T, &'static str) {
+    let (mut lent, lent_file) = (desks().holding(&[*desk]), bytes(file.len()).holding(file));
+    let answer = call(lent_file.list(), &mut lent.list_mut()[0]);
+    *desk = lent.list()[0];
+    let is_kept = lent == desks().holding(&[*desk]) && black_box(lent_file) == bytes(file.len()).holding(file);
+    (answer, if is_kept { "" } else { "the file or a place beside the desk" })
+}
+
+/// The refusal of an empty desk, and the desk afterwards. `recount` is the same desk, kept by (a).
+pub fn desk_empty(report: &mut Report, file: &[u8], desk: &mut Desk, recount: &mut Recount) -> u32 {
+    let (found, touched) = on_desk(file, desk, engine::desk_empty);
+    let wanted = recount.empty(file);
+    let differing = differences(desk, &recount.desk());
+    report.same(&(found, touched, differing), &(wanted, "", Vec::new()), || format!("empty desk, {}", hex(file)));
+    found
+}
+
+/// The same for a step.
+pub fn desk_step(report: &mut Report, way: Way, file: &[u8], column: u32, desk: &mut Desk, recount: &mut Recount) -> Step {
+    let (found, touched) = on_desk(file, desk, |file, desk| engine::desk_step(way, file, column, desk));
+    let wanted = recount.step(way, file, column);
+    let differing = differences(desk, &recount.desk());
+    report.same(&(found, touched, differing), &(wanted, "", Vec::new()), || format!("{way} duty {column}, {}", hex(file)));
+    found
+}
+
+pub fn desk_reply(report: &mut Report, desk: &Desk, recount: &Recount) -> Reply {
+    let found = engine::desk_reply(desk.off, desk.total);
+    report.same(&found, &recount.reply(), || format!("reply with {} sailings off, total {}", desk.off, desk.total));
+    found
+}
+
+/// A step that takes the first column out of a desk of a pattern, a step out of range, and an empty desk.
+fn desk_calls(report: &mut Report, file: &[u8]) {
+    let mut desk = desks().list()[0];
+    let mut recount = Recount::new(desk);
+    desk_step(report, Way::Remove, file, 1, &mut desk, &mut recount);
+    desk_step(report, Way::Add, file, 257, &mut desk, &mut recount);
+    desk_empty(report, file, &mut desk, &mut recount);
+}
+
 /// All calls that take a file, with room for any file.
 pub fn all_calls(report: &mut Report, file: &[u8], limit: u32) {
     read(report, file, [256, 256, 4096]);
@@ -191,4 +267,5 @@ pub fn all_calls(report: &mut Report, file: &[u8], limit: u32) {
         search(report, goal, file, limit, 64);
     }
     uncrewed(report, file, limit, 64);
+    desk_calls(report, file);
 }

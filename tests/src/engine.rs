@@ -1,6 +1,7 @@
 //! The static library's calls on slices. Slices are never null and a `&mut` slice overlaps no other, which is what the library asks.
 
-use crate::answers::{Answer, Assigned, Checked, Reduced, Shape, Uncrewed, Written};
+use crate::answers::{Answer, Assigned, Checked, Reduced, Reply, Shape, Step, Uncrewed, Written};
+use crate::desk::{Desk, Way};
 use crate::goal::Goal;
 use crate::requests::Requests;
 use crate::table::Costs;
@@ -60,6 +61,33 @@ extern "C" {
     ) -> Answer;
     fn spp_core_assign(crews: usize, vessels: usize, table: *const u32, answer: *mut u8, answer_count: usize) -> Assigned;
     fn spp_core_uncrewed(file: *const u8, file_count: usize, node_limit: u32, shown: *mut u16, shown_count: usize) -> Uncrewed;
+    fn spp_core_desk_empty(
+        file: *const u8,
+        file_count: usize,
+        marks: *mut u8,
+        covered: *mut u32,
+        off: *mut u32,
+        total: *mut i32,
+    ) -> u32;
+    fn spp_core_desk_add(
+        file: *const u8,
+        file_count: usize,
+        column: u32,
+        marks: *mut u8,
+        covered: *mut u32,
+        off: *mut u32,
+        total: *mut i32,
+    ) -> Step;
+    fn spp_core_desk_remove(
+        file: *const u8,
+        file_count: usize,
+        column: u32,
+        marks: *mut u8,
+        covered: *mut u32,
+        off: *mut u32,
+        total: *mut i32,
+    ) -> Step;
+    fn spp_core_desk_reply(off: u32, total: i32) -> Reply;
 }
 
 pub fn read(file: &[u8], costs: &mut [u32], lengths: &mut [u16], numbers: &mut [u8]) -> Shape {
@@ -133,4 +161,23 @@ pub fn assign(crews: usize, vessels: usize, costs: &Costs, answer: &mut [u8]) ->
 
 pub fn uncrewed(file: &[u8], limit: u32, shown: &mut [u16]) -> Uncrewed {
     unsafe { spp_core_uncrewed(file.as_ptr(), file.len(), limit, shown.as_mut_ptr(), shown.len()) }
+}
+
+/// Makes an empty desk; gives the refusal.
+pub fn desk_empty(file: &[u8], desk: &mut Desk) -> u32 {
+    let Desk { marks, covered, off, total } = desk;
+    unsafe { spp_core_desk_empty(file.as_ptr(), file.len(), marks.as_mut_ptr(), covered.as_mut_ptr(), off, total) }
+}
+
+pub fn desk_step(way: Way, file: &[u8], column: u32, desk: &mut Desk) -> Step {
+    let call = match way {
+        Way::Add => spp_core_desk_add,
+        Way::Remove => spp_core_desk_remove,
+    };
+    let Desk { marks, covered, off, total } = desk;
+    unsafe { call(file.as_ptr(), file.len(), column, marks.as_mut_ptr(), covered.as_mut_ptr(), off, total) }
+}
+
+pub fn desk_reply(off: u32, total: i32) -> Reply {
+    unsafe { spp_core_desk_reply(off, total) }
 }

@@ -38,6 +38,31 @@ impl Columns {
         bytes.extend(self.bodies.concat());
         bytes
     }
+
+    /// The file's bytes with a fault that has this refusal, 0 for none. The fault is in the first column or the last body; for 6, which a
+    /// small file can't have, it is another file.
+    pub fn damaged(&self, refusal: u32) -> Vec<u8> {
+        let mut file = self.file();
+        let (contents, last) = (8 + 8 * self.costs.len(), file.len() - 1);
+        match refusal {
+            1 => file[3] = b'2',
+            2 => file[4] = 65,
+            3 => file.truncate(contents - 1),
+            4 => file[8..12].fill(0),
+            5 => file[14] = 0,
+            6 => file = too_many_entries().file(),
+            7 => file[12] ^= 1,
+            8 => file.push(1),
+            9 => file[last] = 0,
+            _ => {}
+        }
+        file
+    }
+}
+
+/// 65 columns of all 64 rows: 4,160 entries, of which the last 64 are too many.
+fn too_many_entries() -> Columns {
+    Columns { rows: 64, costs: vec![1; 65], bodies: vec![(1..=64).collect(); 65] }
 }
 
 /// Columns from pairs of a body and a cost.

@@ -42,7 +42,8 @@ fn compare_all() -> bool {
     let start = Instant::now();
     let mut report = Report::default();
     println!("(a) is the plain implementation in tests/src/plain, the second solver is tests/src/second.rs, and for crews onto");
-    println!("vessels tests/src/second_assign.rs, for sailings that can't be crewed tests/src/second_uncrewed.rs");
+    println!("vessels tests/src/second_assign.rs, for sailings that can't be crewed tests/src/second_uncrewed.rs, for the");
+    println!("running plan tests/src/second_desk.rs");
     groups::worked::run(&mut report);
     groups::worked_lists::run(&mut report);
     groups::stored::run(&mut report);
@@ -60,6 +61,10 @@ fn compare_all() -> bool {
     groups::uncrewed_generated::run(&mut report);
     groups::uncrewed_limits::run(&mut report);
     groups::uncrewed_faults::run(&mut report);
+    groups::desk_worked::run(&mut report);
+    groups::desk_walks::run(&mut report);
+    groups::desk_files::run(&mut report);
+    groups::desk_faults::run(&mut report);
     small_stack(&mut report);
     let passed = report.finish();
     println!("{:.1} seconds", start.elapsed().as_secs_f64());

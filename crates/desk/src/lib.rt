@@ -10,7 +10,7 @@ ghost use lib.ListN.{drop, replicate};
 ghost use Rattle.refusals.specs.Refusals.{faultOf, unless};
 ghost use Rattle.dutyfile.specs.File.{bodiesAt, entryOf};
 ghost use Rattle.dutyfile.specs.Faults.{rising, fileFault};
-ghost use Rattle.desk.specs.Desk.{deskOf, changes, moved, replying};
+ghost use Rattle.desk.specs.Desk.{deskOf, changes, changeOf, totalOf, markOf, moved, replying};
 ghost use Rattle.desk.specs.Steps.{stepFault, Found, movedBy, stepping, stepped, emptied, columnOutcome, stepOutcome};
 ghost use Rattle.desk.specs.declared.Way.the-variants.{Adding, Removing};
 
@@ -71,42 +71,34 @@ fn is_change(way: Way, mark: u8) -> bool
     }
 }
 
-// A column with this body and cost is put in.
-fn put_in(
-    j: usize,
-    body: &[u8],
-    cost: i32,
-    marks: &mut [u8; 256],
-    covered: &mut [u32; 64],
-    off: &mut u32,
-    total: &mut i32,
-)
-    requires { ⌜ (j < 256) × (rising 0 64 (now body) ≡ true) ⌝ }
-    ensures { λ _. ⌜ deskOf (now (marks .exit)) (now (covered .exit)) (now (off .exit)) (now (total .exit)) ≡ moved Adding j (now (body .entry)) cost (deskOf (now (marks .entry)) (now (covered .entry)) (now (off .entry)) (now (total .entry))) ⌝ }
+// What a step adds to the count of each row of its column, wrapping: 1, or all bits set for one less.
+fn count_change(way: Way) -> u32
+    ensures { λ r. ⌜ r ≡ changeOf way ⌝ }
 {
-    counts::move_rows(body, 1, covered, off);
-    let before = *total;
-    *total = signed::wrapping_add(before, cost);
-    marks[j] = 1;
+    match way {
+        Way::Adding => 1,
+        Way::Removing => 4294967295,
+    }
 }
 
-// A column with this body and cost is taken out.
-fn take_out(
-    j: usize,
-    body: &[u8],
-    cost: i32,
-    marks: &mut [u8; 256],
-    covered: &mut [u32; 64],
-    off: &mut u32,
-    total: &mut i32,
-)
-    requires { ⌜ (j < 256) × (rising 0 64 (now body) ≡ true) ⌝ }
-    ensures { λ _. ⌜ deskOf (now (marks .exit)) (now (covered .exit)) (now (off .exit)) (now (total .exit)) ≡ moved Removing j (now (body .entry)) cost (deskOf (now (marks .entry)) (now (covered .entry)) (now (off .entry)) (now (total .entry))) ⌝ }
+// The total after a step.
+fn new_total(way: Way, total: i32, cost: i32) -> i32
+    ensures { λ r. ⌜ r ≡ totalOf way total cost ⌝ }
 {
-    counts::move_rows(body, 4294967295, covered, off);
-    let before = *total;
-    *total = signed::wrapping_sub(before, cost);
-    marks[j] = 0;
+    match way {
+        Way::Adding => signed::wrapping_add(total, cost),
+        Way::Removing => signed::wrapping_sub(total, cost),
+    }
+}
+
+// The mark of a column after a step.
+fn new_mark(way: Way) -> u8
+    ensures { λ r. ⌜ r ≡ markOf way ⌝ }
+{
+    match way {
+        Way::Adding => 1,
+        Way::Removing => 0,
+    }
 }
 
 // A column with this body and cost is put in or taken out.
@@ -123,10 +115,10 @@ fn move_column(
     requires { ⌜ (j < 256) × (rising 0 64 (now body) ≡ true) ⌝ }
     ensures { λ _. ⌜ deskOf (now (marks .exit)) (now (covered .exit)) (now (off .exit)) (now (total .exit)) ≡ moved way j (now (body .entry)) cost (deskOf (now (marks .entry)) (now (covered .entry)) (now (off .entry)) (now (total .entry))) ⌝ }
 {
-    match way {
-        Way::Adding => put_in(j, body, cost, marks, covered, off, total),
-        Way::Removing => take_out(j, body, cost, marks, covered, off, total),
-    }
+    counts::move_rows(body, count_change(way), covered, off);
+    let before = *total;
+    *total = new_total(way, before, cost);
+    marks[j] = new_mark(way);
 }
 
 // The column of an entry, with its rows and its cost in the file, is put in or taken out.

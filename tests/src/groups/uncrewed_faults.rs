@@ -112,24 +112,6 @@ fn rooms(report: &mut Report, columns: &Columns) {
     }
 }
 
-/// A file's bytes with a fault that has this refusal, 0 for none. The fault is in the first column or the last body.
-fn damaged(columns: &Columns, refusal: u32) -> Vec<u8> {
-    let mut file = columns.file();
-    let (contents, last) = (8 + 8 * columns.costs.len(), file.len() - 1);
-    match refusal {
-        1 => file[3] = b'2',
-        2 => file[4] = 65,
-        3 => file.truncate(contents - 1),
-        4 => file[8..12].fill(0),
-        5 => file[14] = 0,
-        7 => file[12] ^= 1,
-        8 => file.push(1),
-        9 => file[last] = 0,
-        _ => {}
-    }
-    file
-}
-
 /// A fault of the file, too many columns, too many entries, a short list and a node limit out of range, every choice of them: the first in
 /// the sequence shows.
 fn several(report: &mut Report, rows: usize) {
@@ -142,7 +124,7 @@ fn several(report: &mut Report, rows: usize) {
                     let faults =
                         [(fault > 0, fault), (count > 192, 18), (entries > left, 6), (room < rows, 10), (limit != LIMIT, 11)];
                     match faults.iter().find(|fault| fault.0) {
-                        Some(first) => file_refuses(report, &damaged(&columns, fault), limit, room, first.1),
+                        Some(first) => file_refuses(report, &columns.damaged(fault), limit, room, first.1),
                         None => refuses(report, &columns, limit, room, 0),
                     }
                 }

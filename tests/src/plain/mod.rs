@@ -1,6 +1,8 @@
-//! The rules of 01 and of 02, P1, P2, P5 and P6 in plain code: the same calls as the static library, on slices.
+//! The rules of 01 and of 02, P1, P2, P5, P6 and P7 in plain code: the same calls as the static library, on slices, and for P7
+//! a desk of its own.
 
 mod assign;
+mod desk;
 mod file;
 mod goal;
 mod matrix;
@@ -11,6 +13,7 @@ mod search;
 mod uncrewed;
 
 pub use assign::assign;
+pub use desk::{counted, Recount};
 pub use file::{check, read, write};
 pub use reduce::reduce;
 pub use search::{search, search_with, tree, Tree};

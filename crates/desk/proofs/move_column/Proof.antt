@@ -1,32 +1,45 @@
--- By what the step does.
-
+-- The rows are counted, then the total and the mark are set.
+use mir.Syntax.{w32}
+use mir.Val.{SFits}
+use Rattle.signed.proofs.Signs.{read-back}
+use Rattle.desk.specs.Desk.{totalOf}
+use Rattle.desk.proofs.Moves.{moved-is}
 use borrow.Author.Needs.{needs}
-use mir.Facts.{toZ-ofZ}
 use Rattle.desk.proofs.move_column.Statement.{statement}
 use Rattle.desk.proofs.move_column.Tie as tie
 
-enum-told : tie.Need-enum-told
-enum-told c = search needs
+count-change-requires : tie.Need-count-change-requires
+count-change-requires c κs = search needs
 
-put-in-requires : tie.Need-put-in-requires
-put-in-requires c κs = search needs
+move-rows-requires : tie.Need-move-rows-requires
+move-rows-requires c κs = search needs
 
-enum-told-2 : tie.Need-enum-told-2
-enum-told-2 c = search needs
+new-total-requires : tie.Need-new-total-requires
+new-total-requires c κs = search needs
 
-take-out-requires : tie.Need-take-out-requires
-take-out-requires c κs = search needs
+new-mark-requires : tie.Need-new-mark-requires
+new-mark-requires c κs = search needs
+
+element-write-marks : tie.Need-element-write-marks
+element-write-marks c = search needs
 
 returns : tie.Need-returns
 returns c =
-    let e = c .before .before .before .before .before in
-    rw (e .enum-told .given .1) (rw (toZ-ofZ (e .before .before .before .fits .cost)) at (c .put-in .ensures))
-
-returns-2 : tie.Need-returns-2
-returns-2 c =
-    let e = c .before .before .before .before .before in
-    rw (e .enum-told2 .given .1) (rw (toZ-ofZ (e .before .before .before .fits .cost)) at (c .take-out .ensures))
+    let m = c .before .before .before in
+    let b = m .before .before .before in
+    let s = b .before .before in
+    let t = s .args .total .now in
+    let f : SFits w32 t = search needs in
+    moved-is _ _ _ (s .args .cost) t _ _ _ _ _ _ _ _ (b .count-change .ensures) (m .move-rows .ensures)
+    (read-back (totalOf (s .args .way)) t (s .args .cost) _ f (s .fits .cost) (c .before .new-total .ok) (c .before .new-total .ensures)) (c .new-mark .ensures)
 
 pub move-column-spec : {M : Type 1} → statement M
 move-column-spec =
-    tie.close (tie.spec enum-told put-in-requires enum-told-2 take-out-requires returns returns-2)
+    tie.close
+    (tie.spec
+    count-change-requires
+    move-rows-requires
+    new-total-requires
+    new-mark-requires
+    element-write-marks
+    returns)

@@ -4,6 +4,7 @@
 
 mod assign;
 mod calls;
+mod desk;
 mod growth;
 mod measure;
 mod model;
@@ -57,4 +58,5 @@ fn main() {
     stack::table();
     assign::table();
     uncrewed::table();
+    desk::table();
 }

@@ -67,14 +67,21 @@ pub fn process<T>(run: impl FnOnce() -> T) -> (T, f64) {
     timed(of_children, run)
 }
 
-/// The seconds of two runs, each repeated `count` times in turn, so that both meet the same state of the machine. A first run of each is
+/// The seconds of some runs, each repeated `count` times in turn, so that all meet the same state of the machine. A first run of each is
 /// not counted.
+pub fn each_in_turn<const RUNS: usize>(count: usize, mut runs: [&mut dyn FnMut(); RUNS]) -> [Runs; RUNS] {
+    runs.iter_mut().for_each(|run| run());
+    let mut seconds = [(); RUNS].map(|_| Runs::default());
+    for _ in 0..count {
+        runs.iter_mut().zip(&mut seconds).for_each(|(run, seconds)| seconds.push(call(run).1));
+    }
+    seconds
+}
+
+/// The same for two runs.
 pub fn in_turn(count: usize, mut first: impl FnMut(), mut second: impl FnMut()) -> (Runs, Runs) {
-    first();
-    second();
-    let pairs = (0..count).map(|_| (call(&mut first).1, call(&mut second).1));
-    let (first, second) = pairs.unzip();
-    (Runs::new(first), Runs::new(second))
+    let [first, second] = each_in_turn(count, [&mut first, &mut second]);
+    (first, second)
 }
 
 /// The seconds of a run repeated `count` times. A first run is not counted.

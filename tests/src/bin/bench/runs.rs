@@ -41,6 +41,11 @@ impl Runs {
         Runs(self.0.iter().zip(&other.0).map(|(figure, other)| figure / other).collect())
     }
 
+    /// Each run's figure less that of the other run taken in turn with it.
+    pub fn less(&self, other: &Runs) -> Runs {
+        Runs(self.0.iter().zip(&other.0).map(|(figure, other)| figure - other).collect())
+    }
+
     /// Sums of the figures of the first runs, of the second runs, and so on.
     pub fn sums(parts: &[Runs]) -> Runs {
         let count = parts.iter().map(|part| part.0.len()).min().unwrap_or(0);

@@ -1,0 +1,22 @@
+-- By what the step does.
+use Rattle.desk.specs.Desk.{changeOf}
+use borrow.Author.Needs.{needs}
+use Rattle.desk.proofs.count_change.Statement.{statement}
+use Rattle.desk.proofs.count_change.Tie as tie
+
+enum-told : tie.Need-enum-told
+enum-told c = search needs
+
+enum-told-2 : tie.Need-enum-told-2
+enum-told-2 c = search needs
+
+returns : tie.Need-returns
+unfolding changeOf
+returns c = rw (c .enum-told .given .1)
+
+returns-2 : tie.Need-returns-2
+unfolding changeOf
+returns-2 c = rw (c .enum-told2 .given .1)
+
+pub count-change-spec : {M : Type 1} → statement M
+count-change-spec = tie.close (tie.spec enum-told enum-told-2 returns returns-2)
