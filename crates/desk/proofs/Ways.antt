@@ -1,4 +1,4 @@
--- The ways out of a step, and out of making a desk empty.
+-- The reply, the ways out of a step, and those out of making a desk empty.
 use mathlib.Core.Path.{_≡_, ap, _∙_}
 use mathlib.Core.Bool.{Bool, true, false, cond}
 use mathlib.Core.List.{List}
@@ -22,7 +22,8 @@ use Rattle.dutyfile.proofs.Columns.{ColumnAt, column-at, body-rises, part-is}
 use Rattle.desk.specs.declared.Way.{Way}
 use Rattle.desk.specs.declared.ReplyAnswer.the-variants.{Plan}
 use Rattle.desk.specs.Desk.{Desk, emptyDesk, changes, moved, replying}
-use Rattle.desk.specs.Steps.{stepFault, Found, changed, unchanged, stepping, after, movedBy, stepped, emptied}
+use Rattle.desk.specs.Steps.{stepFault, changed, unchanged, stepping, after, movedBy, stepped, emptied}
+use Rattle.desk.specs.Found.{Found}
 
 -- the reply that is a plan
 pub reply-plan : (off : ℕ) (total : ℤ) → SFits w32 total → off ≡ 0 → Plan (toZ w32 (ofZ w32 total)) ≡ replying off total

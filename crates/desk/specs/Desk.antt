@@ -31,24 +31,24 @@ changes Adding mark = eqb mark 0
 changes Removing mark = not (eqb mark 0)
 
 -- what a step adds to the count of each row of its column; the total after it; the mark of its column after it
-unfoldable pub changeOf : Way → ℕ
-changeOf Adding = more
-changeOf Removing = less
+unfoldable pub countChange : Way → ℕ
+countChange Adding = more
+countChange Removing = less
 
-unfoldable pub totalOf : Way → ℤ → ℤ → ℤ
-totalOf Adding total cost = sum32 total cost
-totalOf Removing total cost = difference32 total cost
+unfoldable pub newTotal : Way → ℤ → ℤ → ℤ
+newTotal Adding total cost = sum32 total cost
+newTotal Removing total cost = difference32 total cost
 
-unfoldable pub markOf : Way → ℕ
-markOf Adding = 1
-markOf Removing = 0
+unfoldable pub newMark : Way → ℕ
+newMark Adding = 1
+newMark Removing = 0
 
 -- column j, with its body and its cost, put in or taken out: the counts change by its rows and the total by its cost alone
 unfoldable pub moved : Way → ℕ → List ℕ → ℤ → Desk → Desk
 moved way j body cost d = record {
-  marks = set (d .marks) j (markOf way);
-  counts = rowsMoved (changeOf way) body (d .counts);
-  total = totalOf way (d .total) cost;
+  marks = set (d .marks) j (newMark way);
+  counts = rowsMoved (countChange way) body (d .counts);
+  total = newTotal way (d .total) cost;
 }
 
 -- a plan at its cost where no row is off; answered from these two numbers alone

@@ -1,2 +1,3 @@
 pub mod Desk
 pub mod Steps
+pub mod Found

@@ -1,21 +1,17 @@
 -- A step on a desk over a file (02, P7): its tests, what it says, and the desk after it.
-use mathlib.Core.Path.{_≡_}
 use mathlib.Core.Bool.{cond, _&&_}
 use mathlib.Core.List.{List}
 use Prim.Native.Nat.{ℕ, _-_}
 use lib.Dec.{leb}
 use lib.IntN.{pos}
-use lib.ListN.{getD, drop}
+use lib.ListN.{getD}
 use Rattle.node.specs.Matrix.{body}
-use Rattle.refusals.specs.Refusals.{Fault, fine, ask, _then_, Outcome, accepted, refused, unless, numberOf}
-use Rattle.dutyfile.specs.declared.Entry.{Entry}
-use Rattle.dutyfile.specs.File.{rowsIn, columnsIn, bodiesAt, entryOf, parse, instance}
+use Rattle.refusals.specs.Refusals.{Fault, ask, _then_, Outcome, accepted, refused, unless, numberOf}
+use Rattle.dutyfile.specs.File.{rowsIn, columnsIn, parse, instance}
 use Rattle.dutyfile.specs.Faults.{fileFault}
 use Rattle.desk.specs.declared.Way.{Way}
 use Rattle.desk.specs.declared.StepAnswer.{StepAnswer}
 use Rattle.desk.specs.declared.StepAnswer.the-variants.{Changed, Unchanged, Refused}
-use Rattle.desk.specs.declared.ColumnAnswer.{ColumnAnswer}
-use Rattle.desk.specs.declared.ColumnAnswer.the-variants.{At, Refused as RefusedColumn}
 use Rattle.desk.specs.Desk.{Desk, emptyDesk, changes, moved}
 
 -- what an accepted step says
@@ -26,11 +22,6 @@ pub data Said : Type 0 where
 -- 1 to 9 for the file, then 19: the column's number is from 1 to n
 unfoldable pub stepFault : List ℕ → ℕ → Fault
 stepFault file number = fileFault file then ask (leb 1 number && leb number (columnsIn file)) 19
-
--- an entry is that of the column with this number, and the tests pass
-pub record Found (file : List ℕ) (number : ℕ) (e : Entry) : Type 0 where
-  pub passes : stepFault file number ≡ fine
-  pub entry : e ≡ entryOf (drop (bodiesAt (number - 1)) file)
 
 -- what a step says
 unfoldable pub stepping : Way → List ℕ → ℕ → Desk → Outcome Said
@@ -46,6 +37,7 @@ after (refused n) new old = old
 unfoldable pub movedBy : Way → List ℕ → ℕ → Desk → Desk
 movedBy way file number d = moved way (number - 1) (body (instance (parse file) .matrix) (number - 1)) (pos (getD (parse file .costs) (number - 1) 0)) d
 
+-- the desk after a step
 unfoldable pub stepped : Way → List ℕ → ℕ → Desk → Desk
 stepped way file number d = after (stepping way file number d) (movedBy way file number d) d
 
@@ -53,12 +45,8 @@ stepped way file number d = after (stepping way file number d) (movedBy way file
 unfoldable pub emptied : List ℕ → Desk → Desk
 emptied file d = after (unless (fileFault file) changed) (emptyDesk (rowsIn file)) d
 
--- the calls' answers in these terms
+-- the call's answer in these terms
 unfoldable pub stepOutcome : StepAnswer → Outcome Said
 stepOutcome Changed = accepted changed
 stepOutcome Unchanged = accepted unchanged
 stepOutcome (Refused why) = refused (numberOf why)
-
-unfoldable pub columnOutcome : ColumnAnswer → Outcome Entry
-columnOutcome (At e) = accepted e
-columnOutcome (RefusedColumn why) = refused (numberOf why)

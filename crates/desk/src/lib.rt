@@ -10,8 +10,9 @@ ghost use lib.ListN.{drop, replicate};
 ghost use Rattle.refusals.specs.Refusals.{faultOf, unless};
 ghost use Rattle.dutyfile.specs.File.{bodiesAt, entryOf};
 ghost use Rattle.dutyfile.specs.Faults.{rising, fileFault};
-ghost use Rattle.desk.specs.Desk.{deskOf, changes, changeOf, totalOf, markOf, moved, replying};
-ghost use Rattle.desk.specs.Steps.{stepFault, Found, movedBy, stepping, stepped, emptied, columnOutcome, stepOutcome};
+ghost use Rattle.desk.specs.Desk.{deskOf, changes, countChange, newTotal, newMark, moved, replying};
+ghost use Rattle.desk.specs.Steps.{stepFault, stepping, movedBy, stepped, emptied, stepOutcome};
+ghost use Rattle.desk.specs.Found.{Found, columnOutcome};
 ghost use Rattle.desk.specs.declared.Way.the-variants.{Adding, Removing};
 
 // What a step does with its column.
@@ -73,7 +74,7 @@ fn is_change(way: Way, mark: u8) -> bool
 
 // What a step adds to the count of each row of its column, wrapping: 1, or all bits set for one less.
 fn count_change(way: Way) -> u32
-    ensures { λ r. ⌜ r ≡ changeOf way ⌝ }
+    ensures { λ r. ⌜ r ≡ countChange way ⌝ }
 {
     match way {
         Way::Adding => 1,
@@ -83,7 +84,7 @@ fn count_change(way: Way) -> u32
 
 // The total after a step.
 fn new_total(way: Way, total: i32, cost: i32) -> i32
-    ensures { λ r. ⌜ r ≡ totalOf way total cost ⌝ }
+    ensures { λ r. ⌜ r ≡ newTotal way total cost ⌝ }
 {
     match way {
         Way::Adding => signed::wrapping_add(total, cost),
@@ -93,7 +94,7 @@ fn new_total(way: Way, total: i32, cost: i32) -> i32
 
 // The mark of a column after a step.
 fn new_mark(way: Way) -> u8
-    ensures { λ r. ⌜ r ≡ markOf way ⌝ }
+    ensures { λ r. ⌜ r ≡ newMark way ⌝ }
 {
     match way {
         Way::Adding => 1,

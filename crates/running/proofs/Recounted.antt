@@ -18,7 +18,7 @@ use Rattle.signed.proofs.Exact.{sum-exact, difference-exact}
 use Rattle.counts.specs.Counts.{plus, more, less, rowsMoved}
 use Rattle.desk.specs.declared.Way.{Way}
 use Rattle.desk.specs.declared.Way.the-variants.{Adding, Removing}
-use Rattle.desk.specs.Desk.{Desk, emptyDesk, changes, changeOf, totalOf, markOf, moved}
+use Rattle.desk.specs.Desk.{Desk, emptyDesk, changes, countChange, newTotal, newMark, moved}
 use Rattle.running.specs.Running.{puts}
 use Rattle.running.specs.Recount.{offIn, Bounded, Recount}
 use Rattle.running.proofs.Sums.{Joins, total-joins, on-one}
@@ -126,14 +126,14 @@ module _ (p : Matrix) (costs : List ℕ) where
       small i = omega (arith, count-le X i, ok .wide)
 
       put-recount : (d : Desk) → Recount p costs X d → Recount p costs Y (moved Adding j (body p j) (pos (getD costs j 0)) d)
-      unfolding moved changeOf totalOf markOf
+      unfolding moved countChange newTotal newMark
       put-recount d w =
           change-recount X Y j 1 more inside (sym (joins .in′)) (joins .others) (λ h. let z : _≡_ {A = ℕ} 2 1 = h in omega arith) d w
           (λ i. rw (count-joins i) (up (member (suc i) (body p j)) (count p i X) (small i)))
           (rw (w .total) (sum-exact (pos (price p costs X)) (pos (getD costs j 0)) (fits _ (price-le X)) (fits _ cost-le) (fits _ sum-le) ∙ ap pos (sym price-joins)))
 
       lift-recount : (d : Desk) → Recount p costs Y d → Recount p costs X (moved Removing j (body p j) (pos (getD costs j 0)) d)
-      unfolding moved changeOf totalOf markOf
+      unfolding moved countChange newTotal newMark
       lift-recount d w =
           change-recount Y X j 0 less inside (sym (joins .out)) (λ k ne. sym (joins .others k ne)) (λ h. let z : _≡_ {A = ℕ} 0 1 = h in omega arith) d w
           (λ i. rw (count-joins i) (down (member (suc i) (body p j)) (count p i X) (small i)))

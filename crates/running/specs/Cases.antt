@@ -12,7 +12,7 @@ use Rattle.signed.specs.Signed.{bits, sum32, difference32}
 use Rattle.counts.specs.Counts.{offBy, rowMoved, rowsMoved}
 use Rattle.desk.specs.declared.Way.the-variants.{Adding, Removing}
 use Rattle.desk.specs.declared.ReplyAnswer.the-variants.{Plan, NoPlan}
-use Rattle.desk.specs.Desk.{Desk, deskOf, emptyDesk, changes, changeOf, totalOf, markOf, moved, replying}
+use Rattle.desk.specs.Desk.{Desk, deskOf, emptyDesk, changes, countChange, newTotal, newMark, moved, replying}
 use Rattle.desk.specs.Steps.{changed, unchanged, stepFault, stepping, after, movedBy, stepped}
 use Rattle.running.specs.Running.{Step, run, replyOf}
 
@@ -92,5 +92,5 @@ Sayings =
     ≡ (accepted changed ∷ accepted unchanged ∷ accepted unchanged ∷ refused 19 ∷ refused 19 ∷ refused 3 ∷ [])
 
 deskCases : Replies × Others × Sayings
-unfolding same ask _then_ unless entriesOf entries parse contents header render sum bodies instance rising countsFault columnFault entryFault entriesFault bodiesFault headerFault contentsFault endFault rowsFault fileFault sum32 difference32 offBy rowMoved rowsMoved emptyDesk changes changeOf totalOf markOf moved replying stepFault stepping after movedBy stepped run
+unfolding same ask _then_ unless entriesOf entries parse contents header render sum bodies instance rising countsFault columnFault entryFault entriesFault bodiesFault headerFault contentsFault endFault rowsFault fileFault sum32 difference32 offBy rowMoved rowsMoved emptyDesk changes countChange newTotal newMark moved replying stepFault stepping after movedBy stepped run
 deskCases = (refl, refl, refl)

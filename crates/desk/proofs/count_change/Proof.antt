@@ -1,5 +1,5 @@
 -- By what the step does.
-use Rattle.desk.specs.Desk.{changeOf}
+use Rattle.desk.specs.Desk.{countChange}
 use borrow.Author.Needs.{needs}
 use Rattle.desk.proofs.count_change.Statement.{statement}
 use Rattle.desk.proofs.count_change.Tie as tie
@@ -11,11 +11,11 @@ enum-told-2 : tie.Need-enum-told-2
 enum-told-2 c = search needs
 
 returns : tie.Need-returns
-unfolding changeOf
+unfolding countChange
 returns c = rw (c .enum-told .given .1)
 
 returns-2 : tie.Need-returns-2
-unfolding changeOf
+unfolding countChange
 returns-2 c = rw (c .enum-told2 .given .1)
 
 pub count-change-spec : {M : Type 1} → statement M

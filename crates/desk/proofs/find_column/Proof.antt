@@ -10,7 +10,7 @@ use Rattle.dutyfile.specs.Faults.{fileFault}
 use Rattle.dutyfile.proofs.Facts.{file-fine}
 use Rattle.examine.specs.Answer.{readOutcome}
 use Rattle.desk.specs.declared.ColumnAnswer.the-variants.{At}
-use Rattle.desk.specs.Steps.{columnOutcome}
+use Rattle.desk.specs.Found.{columnOutcome}
 use Rattle.desk.proofs.Ways.{fault-file, fault-low, fault-high, fault-none}
 use borrow.Author.Needs.{needs}
 use Rattle.desk.proofs.find_column.Statement.{statement}

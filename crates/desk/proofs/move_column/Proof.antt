@@ -2,7 +2,7 @@
 use mir.Syntax.{w32}
 use mir.Val.{SFits}
 use Rattle.signed.proofs.Signs.{read-back}
-use Rattle.desk.specs.Desk.{totalOf}
+use Rattle.desk.specs.Desk.{newTotal}
 use Rattle.desk.proofs.Moves.{moved-is}
 use borrow.Author.Needs.{needs}
 use Rattle.desk.proofs.move_column.Statement.{statement}
@@ -31,7 +31,7 @@ returns c =
     let t = s .args .total .now in
     let f : SFits w32 t = search needs in
     moved-is _ _ _ (s .args .cost) t _ _ _ _ _ _ _ _ (b .count-change .ensures) (m .move-rows .ensures)
-    (read-back (totalOf (s .args .way)) t (s .args .cost) _ f (s .fits .cost) (c .before .new-total .ok) (c .before .new-total .ensures)) (c .new-mark .ensures)
+    (read-back (newTotal (s .args .way)) t (s .args .cost) _ f (s .fits .cost) (c .before .new-total .ok) (c .before .new-total .ensures)) (c .new-mark .ensures)
 
 pub move-column-spec : {M : Type 1} → statement M
 move-column-spec =

@@ -1,5 +1,5 @@
 -- By what the step does.
-use Rattle.desk.specs.Desk.{markOf}
+use Rattle.desk.specs.Desk.{newMark}
 use borrow.Author.Needs.{needs}
 use Rattle.desk.proofs.new_mark.Statement.{statement}
 use Rattle.desk.proofs.new_mark.Tie as tie
@@ -11,11 +11,11 @@ enum-told-2 : tie.Need-enum-told-2
 enum-told-2 c = search needs
 
 returns : tie.Need-returns
-unfolding markOf
+unfolding newMark
 returns c = rw (c .enum-told .given .1)
 
 returns-2 : tie.Need-returns-2
-unfolding markOf
+unfolding newMark
 returns-2 c = rw (c .enum-told2 .given .1)
 
 pub new-mark-spec : {M : Type 1} → statement M

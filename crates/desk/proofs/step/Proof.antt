@@ -2,7 +2,8 @@
 use mathlib.Core.Path.{sym, _∙_}
 use borrow.Author.Tests.{not-true, not-false}
 use Rattle.refusals.proofs.Laws.{accepts, refuses}
-use Rattle.desk.specs.Steps.{Found, stepOutcome, columnOutcome}
+use Rattle.desk.specs.Steps.{stepOutcome}
+use Rattle.desk.specs.Found.{Found, columnOutcome}
 use Rattle.desk.proofs.Ways.{passed, found-ready, step-refused, step-idle, step-done}
 use borrow.Author.Needs.{needs}
 use Rattle.desk.proofs.step.Statement.{statement}

@@ -30,10 +30,11 @@ impl Task<'_> {
         Task { file, columns, desk }
     }
 
-    /// The file is tested, and the step refused by 19.
+    /// The file is tested, and nothing changes: the columns are not in.
     fn test(&mut self) {
-        for _ in 0..CALLS {
-            keep(engine::desk_step(Way::Add, black_box(self.file), self.columns as u32 + 1, &mut self.desk));
+        for call in 0..CALLS {
+            let column = call / 2 * 37 % self.columns + 1;
+            keep(engine::desk_step(Way::Remove, black_box(self.file), column as u32, &mut self.desk));
         }
     }
 
@@ -103,23 +104,29 @@ impl Measured {
         println!("{} {} | {} |", self.front(), times.join(" | "), ratios.join(" | "));
     }
 
-    /// The same less the time of testing the file. The ratios are of the medians, since the runs' differences scatter.
-    fn line_without_test(&self) {
-        let step = self.step.less(&self.step_test);
-        let checks = self.checks.each_ref().map(|check| check.less(&self.check_test));
-        let times = [&step, &checks[0], &checks[1]].map(|runs| runs.times(1e9 / CALLS as f64).shown(0));
-        let ratios = checks.each_ref().map(|check| format!("{:.3}", step.median() / check.median()));
-        println!("{} {} | {} |", self.front(), times.join(" | "), ratios.join(" | "));
+    /// The checks less the time of testing the file.
+    fn checks_alone(&self) -> [Runs; 2] {
+        self.checks.each_ref().map(|check| check.less(&self.check_test))
     }
-}
 
-/// Prints the line of a file of one column, which is tested in little time.
-fn short_line(rows: u8) {
-    let file = Columns { rows: 64, costs: vec![1000], bodies: vec![(1..=rows).collect()] }.file();
-    let (mut tested, mut stepped) = (Task::new(&file, 1), Task::new(&file, 1));
-    let [test, step] = measure::each_in_turn(REPEATS, [&mut || tested.test(), &mut || stepped.step()]);
-    let cells = [&test, &step, &step.less(&test)].map(|runs| runs.times(1e9 / CALLS as f64).shown(0)).join(" | ");
-    println!("| {rows} | {cells} |");
+    /// The same less the time of testing the file.
+    fn line_without_test(&self) {
+        let [few, all] = self.checks_alone();
+        let times = [&self.step.less(&self.step_test), &few, &all].map(|runs| runs.times(1e9 / CALLS as f64).shown(0));
+        println!("{} {} |", self.front(), times.join(" | "));
+    }
+
+    /// The line of a file of one column with as many rows, which is tested in little time. The ratio is of the medians.
+    fn line_of_one_column(&self) {
+        let body = &self.columns.bodies[0];
+        let file = Columns { rows: 64, costs: vec![1000], bodies: vec![body.clone()] }.file();
+        let (mut tested, mut stepped) = (Task::new(&file, 1), Task::new(&file, 1));
+        let [test, step] = measure::each_in_turn(REPEATS, [&mut || tested.test(), &mut || stepped.step()]);
+        let alone = step.less(&test);
+        let cells = [&test, &step, &alone].map(|runs| runs.times(1e9 / CALLS as f64).shown(0)).join(" | ");
+        let [_, all] = self.checks_alone();
+        println!("| {} | {cells} | {:.3} |", body.len(), alone.median() / all.median());
+    }
 }
 
 /// The heads of a table with these columns behind those of each line's front.
@@ -131,18 +138,18 @@ fn heads(columns: &[&str]) {
 pub fn table() {
     println!("## The running plan on the desk\n");
     println!("64 sailings; {REPEATS} runs of {CALLS} calls by the engine, taken in turn. A step puts one duty in or takes it out. The full check is");
-    println!("that of a plan's duties, and of all duties of the file. Testing the file is a step that is refused by 19. Ratios are of a");
-    println!("step to a full check.\n");
+    println!("that of a plan's duties, and of all duties of the file. Testing the file is a step that takes out a duty that is not in.");
+    println!("Ratios are of a step to a full check.\n");
     let makes = [generate_desk::single_rows, generate_desk::largest, generate_desk::all_rows];
     let all = makes.map(|make| measured(make(&mut Random::new(7))));
     heads(&["testing, µs", "step, µs", "check of a plan, µs", "of all, µs", "ratio", "of all"]);
     all.iter().for_each(Measured::line);
-    println!("\nWithout the time of testing the file, for the check that of a check refused by 12; ratios of the medians:\n");
-    heads(&["step, ns", "check of a plan, ns", "of all, ns", "ratio", "of all"]);
+    println!("\nWithout the time of testing the file, for the check that of a check refused by 12. The time of the step itself is below the scatter:\n");
+    heads(&["step, ns", "check of a plan, ns", "of all, ns"]);
     all.iter().for_each(Measured::line_without_test);
-    println!("\nFiles of one duty, where testing takes little:\n");
-    println!("| sailings of the duty | testing, ns | step, ns | step without testing, ns |");
-    println!("|---|---|---|---|");
-    [1, 16, 64].into_iter().for_each(short_line);
+    println!("\nThe step itself, on files of one duty, where testing takes little; its ratio to the full check of all duties in the table before:\n");
+    println!("| sailings of the duty | testing, ns | step, ns | step without testing, ns | ratio to the check of all |");
+    println!("|---|---|---|---|---|");
+    all.iter().for_each(Measured::line_of_one_column);
     println!();
 }
