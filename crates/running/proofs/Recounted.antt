@@ -2,18 +2,18 @@
 use mathlib.Core.Path.{_≡_, refl, sym, ap, _∙_}
 use mathlib.Core.Bool.{Bool, true, false, not, cond}
 use mathlib.Core.List.{List}
-use Prim.Native.Nat.{ℕ, zero, suc, _+_, _≤_, _<_}
+use Prim.Native.Nat.{ℕ, suc, _+_, _≤_, _<_}
 use native.Mathlib.Omega.{arith}
 use borrow.Author.Tests.{eqb-true, eqb-false, eq-eqb, ne-eqb, not-true, not-false}
 use lib.Dec.{eqb}
 use lib.IntN.{ℤ, pos}
-use lib.ListN.{getD, set, length-set, replicate}
+use lib.ListN.{getD, set, length-set, getD-replicate}
 use lib.Seq.{getD-set-same, getD-set-other}
 use mir.Syntax.{w32}
 use mir.Val.{SFits}
 use Rattle.node.specs.Lists.{member, on, total}
 use Rattle.node.specs.Matrix.{Matrix, width, body, covers, count, price}
-use Rattle.rules.proofs.Sums.{total-cong, total-le, total-ones, total-one, total-zero, count-same, price-same}
+use Rattle.rules.proofs.Sums.{total-cong, total-le, total-ones, total-one, total-zero, on-one, count-same, price-same}
 use Rattle.signed.proofs.Exact.{sum-exact, difference-exact}
 use Rattle.counts.specs.Counts.{plus, more, less, rowsMoved}
 use Rattle.desk.specs.declared.Way.{Way}
@@ -21,7 +21,7 @@ use Rattle.desk.specs.declared.Way.the-variants.{Adding, Removing}
 use Rattle.desk.specs.Desk.{Desk, emptyDesk, changes, countChange, newTotal, newMark, moved}
 use Rattle.running.specs.Running.{puts}
 use Rattle.running.specs.Recount.{offIn, Bounded, Recount}
-use Rattle.running.proofs.Sums.{Joins, total-joins, on-one}
+use Rattle.running.proofs.Sums.{Joins, total-joins}
 use Rattle.running.proofs.Tally.{Tallied, rows-tallied, rows-counts}
 
 off-same : (m : ℕ) (f g : ℕ → ℕ) → ((i : ℕ) → i < m → f i ≡ g i) → offIn m f ≡ offIn m g
@@ -173,11 +173,6 @@ module _ (p : Matrix) (costs : List ℕ) where
       idle-recount Removing e = recount-same X (next false) d (λ k l. same false (is-in true (not-false _ e)) k) w
 
   -- the empty desk
-  zeros : (k i : ℕ) → getD {A = ℕ} (replicate k 0) i 0 ≡ 0
-  zeros zero i = refl
-  zeros (suc k) zero = refl
-  zeros (suc k) (suc i) = zeros k i
-
   count-none : (i : ℕ) → count p i (λ j. false) ≡ 0
   unfolding count
   count-none i = total-zero (width p) _ (λ k l. refl)
@@ -186,11 +181,11 @@ module _ (p : Matrix) (costs : List ℕ) where
   unfolding price
   price-none = total-zero (width p) _ (λ k l. refl)
 
-  pub empty-recount : Recount p costs (λ j. false) (emptyDesk (p .rows))
+  pub empty-recount : Bounded p costs → Recount p costs (λ j. false) (emptyDesk (p .rows))
   unfolding emptyDesk
-  empty-recount = record {
-    marks = λ j l. rw (zeros 256 j);
-    covered = λ i l. zeros 64 i ∙ sym (count-none i);
+  empty-recount ok = record {
+    marks = λ j l. rw (getD-replicate {A = ℕ} 256 j 0 0 (omega (arith, l, ok .wide)));
+    covered = λ i l. getD-replicate {A = ℕ} 64 i 0 0 (omega (arith, l, ok .tall)) ∙ sym (count-none i);
     off = sym (total-ones (p .rows) (λ i. on (not (eqb (count p i (λ j. false)) 1)) 1) (λ i l. rw (count-none i)));
     total = ap pos (sym price-none);
     marked = refl;

@@ -105,7 +105,7 @@ module _ (file : List ℕ) (ok : fileFault file ≡ fine) where
   -- the desk's numbers are those of the recount, after any list of steps
   pub recounted : (d : Desk) (vs : List Step) → Recount p costs (inAfter vs (λ j. false)) (run file vs (emptied file d))
   unfolding instance parse
-  recounted d vs = run-recount vs (λ j. false) (emptied file d) (rw (← empty-made file d ok) (empty-recount p costs))
+  recounted d vs = run-recount vs (λ j. false) (emptied file d) (rw (← empty-made file d ok) (empty-recount p costs bounded))
 
   -- the columns that are in, as a list
   module _ (X : ℕ → Bool) where

@@ -1,7 +1,7 @@
 -- Sums that differ at one place: a choice with one more column, and values of which one changes.
 use mathlib.Core.Path.{_≡_, refl}
 use mathlib.Core.Bool.{Bool, true, false}
-use Prim.Native.Nat.{ℕ, _+_, _≤_, _<_}
+use Prim.Native.Nat.{ℕ, _+_, _<_}
 use native.Mathlib.Omega.{arith}
 use borrow.Author.Tests.{eqb-true, eqb-false}
 use lib.Dec.{eqb}
@@ -40,7 +40,3 @@ total-except m i f g h e =
     go : (k : ℕ) (t : Bool) → eqb k i ≡ t → f k + on t (g k) ≡ g k + on t (f k)
     go k true q = omega arith
     go k false q = omega (arith, e k (eqb-false k i q))
-
-pub on-one : (b : Bool) → on b 1 ≤ 1
-on-one true = omega arith
-on-one false = omega arith

@@ -9,12 +9,12 @@ use lib.Dec.{eqb, eqb·suc-suc}
 use lib.ListN.{length, getD, set, length-set}
 use lib.Seq.{getD-set-same, getD-set-other}
 use Rattle.node.specs.Lists.{member, on}
-use Rattle.rules.proofs.Sums.{total-le, total-ones}
+use Rattle.rules.proofs.Sums.{total-le, total-ones, on-one}
 use Rattle.dutyfile.specs.Faults.{rising}
 use Rattle.dutyfile.proofs.Rising.{rising-cons, rising-none}
 use Rattle.counts.specs.Counts.{Counts, plus, more, less, offBy, rowMoved, rowsMoved}
 use Rattle.running.specs.Recount.{offIn}
-use Rattle.running.proofs.Sums.{total-except, on-one}
+use Rattle.running.proofs.Sums.{total-except}
 
 -- the number of rows that are off is the one counted
 pub record Tallied (m : ℕ) (c : Counts) : Type 0 where

@@ -10,6 +10,7 @@ use lib.ListN.{length, getD, drop, set, length-set, drop-of-length-le}
 use lib.Seq.{getD-set-same, getD-set-other}
 use Rattle.node.proofs.Loops.{drop-step}
 use Rattle.node.specs.Lists.{member, on}
+use Rattle.rules.proofs.Sums.{on-one}
 use Rattle.node.specs.Matrix.{Matrix, body, covers}
 use Rattle.dutyfile.specs.Faults.{rising}
 use Rattle.dutyfile.proofs.Rising.{rising-cons, rising-at}
@@ -23,10 +24,6 @@ bump-at c i j h = go (eqb j i) refl
     go : (t : Bool) → eqb j i ≡ t → getD (set c i (getD c i 0 + 1)) j 0 ≡ getD c j 0 + on t 1
     go true e = rw (eqb-true j i e) (getD-set-same c i (getD c i 0 + 1) 0 h)
     go false e = getD-set-other c i j (getD c i 0 + 1) 0 (eqb-false j i e) ∙ omega arith
-
-on-one : (t : Bool) → on t 1 ≤ 1
-on-one true = omega arith
-on-one false = omega arith
 
 pub length-counted : (b c : List ℕ) → length (counted b c) ≡ length c
 unfolding counted
