@@ -30,6 +30,9 @@ extern "C" {
 /* The most columns of a file that spp_uncrewed takes. */
 #define SPP_MOST_TRIAL_COLUMNS 192
 
+/* The most pairs of columns that a search takes. */
+#define SPP_MOST_PAIRS 128
+
 /* Largest values in an accepted table; its costs are at most SPP_MOST_COST. */
 #define SPP_MOST_CREWS 16
 #define SPP_MOST_VESSELS 16
@@ -55,12 +58,14 @@ extern "C" {
 #define SPP_BAD_TABLE_COST 17 /* a cost in the table is above 1,000,000 */
 #define SPP_MANY_COLUMNS 18   /* the file has more columns than spp_uncrewed takes, 192 */
 #define SPP_NO_COLUMN 19      /* the column number is out of range */
+#define SPP_BAD_PAIR 20       /* a column of a pair is out of range, or both columns of a pair are the same */
+#define SPP_BAD_PAIR_COUNT 21 /* the list of pairs has an odd number of numbers, or more than 128 pairs */
 #define SPP_OVERLAP 100       /* two lent lists, structs or tables overlap, or a list reaches beyond the address space */
 #define SPP_NULL 101          /* a null pointer was lent with a number of places above 0, or for a struct or a table */
 
 /*
- * Values of `outcome`, but for struct spp_uncrewed; 0 with a refusal. Plans are those that hold every agreed column and no absent one
- * (struct spp_lists). For spp_assign read assignment for plan and total for price.
+ * Values of `outcome`, but for struct spp_uncrewed; 0 with a refusal. Plans are those that hold every agreed column and no absent one and
+ * obey the pairs (struct spp_lists). For spp_assign read assignment for plan and total for price.
  */
 #define SPP_BEST 1    /* no plan has a lower price than the one shown */
 #define SPP_NONE 2    /* there is no plan */
@@ -101,8 +106,10 @@ struct spp_reduced {
 };
 
 /*
- * Columns that must be in the plan, and columns that must not be. Each list rises and may be empty. A struct of zeros means no lists.
- * Fields may be added at the end, so set all of it to zeros first:
+ * Columns that must be in the plan, columns that must not be, and pairs of columns of which the first may be in the plan only if the
+ * second is. Each list may be empty, and a struct of zeros means no lists. The agreed and the absent list rise. There are at most 128
+ * pairs, which may form chains and rings; a ring means all of its columns or none. Fields may be added at the end, so set all of it to
+ * zeros first:
  *
  *     struct spp_lists lists;
  *     memset(&lists, 0, sizeof lists);
@@ -112,6 +119,8 @@ struct spp_lists {
     size_t agreed_count;
     const uint16_t *absent; /* columns that must not be in the plan */
     size_t absent_count;
+    const uint16_t *pairs; /* pairs of columns, first and second in turn: the first may be in the plan only if the second is */
+    size_t pair_count;     /* the number of numbers in this list, twice the number of pairs */
 };
 
 /*
@@ -184,11 +193,11 @@ struct spp_checked spp_core_check(const uint8_t *file, size_t file_count, const 
 struct spp_reduced spp_core_reduce(const uint8_t *file, size_t file_count, uint32_t *reduced, size_t reduced_count,
                                    uint8_t *order, size_t order_count);
 struct spp_answer spp_core_search(const uint8_t *file, size_t file_count, uint32_t node_limit, const uint16_t *agreed,
-                                  size_t agreed_count, const uint16_t *absent, size_t absent_count, uint16_t *plan,
-                                  size_t plan_count);
+                                  size_t agreed_count, const uint16_t *absent, size_t absent_count, const uint16_t *pairs,
+                                  size_t pair_count, uint16_t *plan, size_t plan_count);
 struct spp_answer spp_core_longest(const uint8_t *file, size_t file_count, uint32_t node_limit, const uint16_t *agreed,
-                                   size_t agreed_count, const uint16_t *absent, size_t absent_count, uint16_t *plan,
-                                   size_t plan_count);
+                                   size_t agreed_count, const uint16_t *absent, size_t absent_count, const uint16_t *pairs,
+                                   size_t pair_count, uint16_t *plan, size_t plan_count);
 struct spp_assigned spp_core_assign(size_t crews, size_t vessels, const uint32_t *table, uint8_t *answer,
                                     size_t answer_count);
 struct spp_uncrewed spp_core_uncrewed(const uint8_t *file, size_t file_count, uint32_t node_limit, uint16_t *shown,
@@ -204,7 +213,8 @@ struct spp_reply spp_core_desk_reply(uint32_t off, int32_t total);
 /* One of the engine's two searches. */
 typedef struct spp_answer (*spp_core_call)(const uint8_t *file, size_t file_count, uint32_t node_limit,
                                            const uint16_t *agreed, size_t agreed_count, const uint16_t *absent,
-                                           size_t absent_count, uint16_t *plan, size_t plan_count);
+                                           size_t absent_count, const uint16_t *pairs, size_t pair_count, uint16_t *plan,
+                                           size_t plan_count);
 
 /* One of the engine's two steps of a desk. */
 typedef struct spp_step (*spp_core_step)(const uint8_t *file, size_t file_count, uint32_t column, uint8_t *marks,
@@ -340,27 +350,29 @@ static inline struct spp_reduced spp_reduce(const uint8_t *file, size_t file_cou
 static inline struct spp_answer spp_guarded_search(spp_core_call call, const uint8_t *file, size_t file_count,
                                                    uint32_t node_limit, const struct spp_lists *lists, uint16_t *plan,
                                                    size_t plan_count) {
-    const struct spp_lists none = {NULL, 0, NULL, 0}, l = lists ? *lists : none;
-    const struct spp_list lent[5] = {{file, file_count, sizeof *file},
+    const struct spp_lists none = {NULL, 0, NULL, 0, NULL, 0}, l = lists ? *lists : none;
+    const struct spp_list lent[6] = {{file, file_count, sizeof *file},
                                      {l.agreed, l.agreed_count, sizeof *l.agreed},
                                      {l.absent, l.absent_count, sizeof *l.absent},
+                                     {l.pairs, l.pair_count, sizeof *l.pairs},
                                      {plan, plan_count, sizeof *plan},
                                      {lists, 1, sizeof *lists}};
     struct spp_answer refused = {0, 0, 0, 0, 0, 0, 0};
     uint8_t no_file = 0;
-    uint16_t no_agreed = 0, no_absent = 0, no_column = 0;
-    refused.refusal = spp_guard(lent, 5);
+    uint16_t no_agreed = 0, no_absent = 0, no_pair = 0, no_column = 0;
+    refused.refusal = spp_guard(lent, 6);
     if (refused.refusal) {
         return refused;
     }
     return call(file ? file : &no_file, file_count, node_limit, l.agreed ? l.agreed : &no_agreed, l.agreed_count,
-                l.absent ? l.absent : &no_absent, l.absent_count, plan ? plan : &no_column, plan_count);
+                l.absent ? l.absent : &no_absent, l.absent_count, l.pairs ? l.pairs : &no_pair, l.pair_count,
+                plan ? plan : &no_column, plan_count);
 }
 
 /*
- * Searches for a plan with the least sum of costs that holds every agreed column and no absent one, and enters at most `node_limit`
- * nodes, 1 to 1,000,000: fills in the plan's columns, rising. The plan list must hold as many places as there are rows. The struct is
- * lent as the lists are: it must not be null nor share a byte with one of them.
+ * Searches for a plan with the least sum of costs that holds every agreed column and no absent one and obeys the pairs, and enters at
+ * most `node_limit` nodes, 1 to 1,000,000: fills in the plan's columns, rising. The plan list must hold as many places as there are rows.
+ * The struct is lent as the lists are: it must not be null nor share a byte with one of them.
  */
 static inline struct spp_answer spp_search_with(const uint8_t *file, size_t file_count, uint32_t node_limit,
                                                 const struct spp_lists *lists, uint16_t *plan, size_t plan_count) {
@@ -376,14 +388,14 @@ static inline struct spp_answer spp_longest_with(const uint8_t *file, size_t fil
 /* spp_search_with, with no lists. */
 static inline struct spp_answer spp_search(const uint8_t *file, size_t file_count, uint32_t node_limit, uint16_t *plan,
                                            size_t plan_count) {
-    const struct spp_lists none = {NULL, 0, NULL, 0};
+    const struct spp_lists none = {NULL, 0, NULL, 0, NULL, 0};
     return spp_search_with(file, file_count, node_limit, &none, plan, plan_count);
 }
 
 /* spp_longest_with, with no lists. */
 static inline struct spp_answer spp_longest(const uint8_t *file, size_t file_count, uint32_t node_limit, uint16_t *plan,
                                             size_t plan_count) {
-    const struct spp_lists none = {NULL, 0, NULL, 0};
+    const struct spp_lists none = {NULL, 0, NULL, 0, NULL, 0};
     return spp_longest_with(file, file_count, node_limit, &none, plan, plan_count);
 }
 

@@ -10,8 +10,9 @@
 
 #define BLOCK 8000
 #define APART 1040 /* bytes between the lists' first places */
-#define MOST_LISTS 5
-#define STRUCT 4 /* the place of the struct among the lists of a search with lists */
+#define MOST_LISTS 6
+#define PLAN 4   /* the place of the plan among the lists of a search with lists */
+#define STRUCT 5 /* the place of the struct among them */
 #define TABLE 0  /* the place of the table among the lists of spp_assign */
 #define DESK 1   /* the place of the desk among the lists of a call on a desk */
 #define PLACES (SPP_MOST_CREWS * SPP_MOST_VESSELS)
@@ -38,20 +39,20 @@ static const char *const call_names[] = {"spp_read",        "spp_write",     "sp
                                          "spp_desk_remove", "spp_desk_reply"};
 
 /* The lists of each call: how many, and the bytes of one place. */
-static const size_t list_counts[] = {4, 4, 2, 3, 2, 2, 5, 5, 2, 2, 2, 2, 2};
-static const size_t place_sizes[][MOST_LISTS] = {{1, 4, 2, 1, 0},
-                                                 {4, 2, 1, 1, 0},
-                                                 {1, 2, 0, 0, 0},
-                                                 {1, 4, 1, 0, 0},
-                                                 {1, 2, 0, 0, 0},
-                                                 {1, 2, 0, 0, 0},
-                                                 {1, 2, 2, 2, sizeof(struct spp_lists)},
-                                                 {1, 2, 2, 2, sizeof(struct spp_lists)},
-                                                 {4, 1, 0, 0, 0},
-                                                 {1, 2, 0, 0, 0},
-                                                 {1, sizeof(struct spp_desk), 0, 0, 0},
-                                                 {1, sizeof(struct spp_desk), 0, 0, 0},
-                                                 {1, sizeof(struct spp_desk), 0, 0, 0}};
+static const size_t list_counts[] = {4, 4, 2, 3, 2, 2, 6, 6, 2, 2, 2, 2, 2};
+static const size_t place_sizes[][MOST_LISTS] = {{1, 4, 2, 1, 0, 0},
+                                                 {4, 2, 1, 1, 0, 0},
+                                                 {1, 2, 0, 0, 0, 0},
+                                                 {1, 4, 1, 0, 0, 0},
+                                                 {1, 2, 0, 0, 0, 0},
+                                                 {1, 2, 0, 0, 0, 0},
+                                                 {1, 2, 2, 2, 2, sizeof(struct spp_lists)},
+                                                 {1, 2, 2, 2, 2, sizeof(struct spp_lists)},
+                                                 {4, 1, 0, 0, 0, 0},
+                                                 {1, 2, 0, 0, 0, 0},
+                                                 {1, sizeof(struct spp_desk), 0, 0, 0, 0},
+                                                 {1, sizeof(struct spp_desk), 0, 0, 0, 0},
+                                                 {1, sizeof(struct spp_desk), 0, 0, 0, 0}};
 
 /* Example 1 of the paper, which is example 7 too: 5 rows, 8 columns, 13 entries. */
 static const uint32_t costs[8] = {3, 7, 5, 8, 10, 4, 6, 9};
@@ -60,6 +61,8 @@ static const uint8_t rows[13] = {1, 1, 5, 2, 2, 5, 2, 3, 3, 5, 3, 4, 4};
 static const uint16_t plan[3] = {1, 4, 7}, longest_plan[3] = {2, 3, 7};
 /* With these lists the plan 2 3 7 is forced. */
 static const uint16_t agreed[1] = {2}, absent[1] = {8};
+/* No plan has columns 1 and 5, so with this pair 1 4 7 is out. */
+static const uint16_t pairs[2] = {1, 5};
 static uint8_t file[85];
 
 /* 5 rows, 3 columns: no column covers row 4, and columns 1 and 2 cover rows 1 to 3. */
@@ -139,20 +142,22 @@ static uint32_t refusal_of(enum call call, const struct lent *l) {
     default:
         return (call == SEARCH_WITH ? spp_search_with : spp_longest_with)((uint8_t *)l[0].start, l[0].count, 1000,
                                                                           (struct spp_lists *)l[STRUCT].start,
-                                                                          (uint16_t *)l[3].start, l[3].count)
+                                                                          (uint16_t *)l[PLAN].start, l[PLAN].count)
             .refusal;
     }
 }
 
-/* Lists of agreed and absent columns as a struct. */
+/* Lists of agreed and absent columns and of pairs as a struct. */
 static struct spp_lists lists_of(const void *agreed_start, size_t agreed_count, const void *absent_start,
-                                 size_t absent_count) {
+                                 size_t absent_count, const void *pairs_start, size_t pair_count) {
     struct spp_lists lists;
     memset(&lists, 0, sizeof lists);
     lists.agreed = (const uint16_t *)agreed_start;
     lists.agreed_count = agreed_count;
     lists.absent = (const uint16_t *)absent_start;
     lists.absent_count = absent_count;
+    lists.pairs = (const uint16_t *)pairs_start;
+    lists.pair_count = pair_count;
     return lists;
 }
 
@@ -171,21 +176,21 @@ static size_t uncounted(enum call call) {
     return call == ASSIGN ? TABLE : has_desk(call) ? DESK : has_struct(call) ? STRUCT : MOST_LISTS;
 }
 
-/* Puts the agreed and absent lists that are lent into the struct that is lent. */
+/* Puts the agreed and absent lists and the pairs that are lent into the struct that is lent. */
 static void put_struct(enum call call, const struct lent *l) {
     if (has_struct(call) && l[STRUCT].start) {
-        struct spp_lists lists = lists_of(l[1].start, l[1].count, l[2].start, l[2].count);
+        struct spp_lists lists = lists_of(l[1].start, l[1].count, l[2].start, l[2].count, l[3].start, l[3].count);
         memcpy(l[STRUCT].start, &lists, sizeof lists);
     }
 }
 
 /* Fills the block with a pattern and lends each list at a place of its own, with what an accepted call needs. */
 static void lend(enum call call, struct lent *l) {
-    static const size_t counts[][MOST_LISTS] = {{85, 8, 8, 13, 0}, {8, 8, 13, 85, 0}, {85, 3, 0, 0, 0},
-                                                {85, 8, 5, 0, 0},  {85, 5, 0, 0, 0},  {85, 5, 0, 0, 0},
-                                                {85, 1, 1, 5, 1},  {85, 1, 1, 5, 1},  {PLACES, 8, 0, 0, 0},
-                                                {85, 5, 0, 0, 0},  {85, 1, 0, 0, 0},  {85, 1, 0, 0, 0},
-                                                {85, 1, 0, 0, 0}};
+    static const size_t counts[][MOST_LISTS] = {{85, 8, 8, 13, 0, 0}, {8, 8, 13, 85, 0, 0}, {85, 3, 0, 0, 0, 0},
+                                                {85, 8, 5, 0, 0, 0},  {85, 5, 0, 0, 0, 0},  {85, 5, 0, 0, 0, 0},
+                                                {85, 1, 1, 2, 5, 1},  {85, 1, 1, 2, 5, 1},  {PLACES, 8, 0, 0, 0, 0},
+                                                {85, 5, 0, 0, 0, 0},  {85, 1, 0, 0, 0, 0},  {85, 1, 0, 0, 0, 0},
+                                                {85, 1, 0, 0, 0, 0}};
     size_t i;
     for (i = 0; i < BLOCK; i++) {
         block.bytes[i] = (uint8_t)(i * 5 + 77);
@@ -209,6 +214,7 @@ static void lend(enum call call, struct lent *l) {
     if (has_struct(call)) {
         memcpy(l[1].start, agreed, sizeof agreed);
         memcpy(l[2].start, absent, sizeof absent);
+        memcpy(l[3].start, pairs, sizeof pairs);
     }
 }
 
@@ -233,7 +239,7 @@ static void move(enum call call, struct lent *l, size_t i, size_t j, size_t offs
 }
 
 /* One array lent as two lists, lists that share some bytes, and lists that lie side by side. */
-static void pairs(enum call call) {
+static void two_lists(enum call call) {
     struct lent l[MOST_LISTS];
     size_t i, j, bytes;
     for (i = 0; i < list_counts[call]; i++) {
@@ -329,33 +335,79 @@ static int equal_answers(struct spp_answer a, struct spp_answer b) {
 /* An accepted search of example 1 through the header: the stated answer and plan, and the same as from the engine. */
 static void accepted_search(enum call call, const uint16_t *wanted_plan, uint64_t price, uint64_t bound) {
     struct spp_answer wanted = {0, SPP_BEST, 1, 3, 3, price, bound};
-    uint16_t found[5], core_found[5], empty[2] = {0, 0};
+    uint16_t found[5], core_found[5], empty[3] = {0, 0, 0};
     struct spp_answer answer = (call == SEARCH ? spp_search : spp_longest)(file, 85, 1000, found, 5);
-    struct spp_answer core_answer =
-        (call == SEARCH ? spp_core_search : spp_core_longest)(file, 85, 1000, empty, 0, empty + 1, 0, core_found, 5);
+    struct spp_answer core_answer = (call == SEARCH ? spp_core_search : spp_core_longest)(
+        file, 85, 1000, empty, 0, empty + 1, 0, empty + 2, 0, core_found, 5);
     holds(equal_answers(answer, wanted) && !memcmp(found, wanted_plan, sizeof plan), call, "example 1");
     holds(equal_answers(answer, core_answer) && !memcmp(found, core_found, sizeof plan), call, "header and engine");
 }
 
-/* Searches of example 1 with lists: a struct of zeros gives the answer without lists, and other lists the stated answer and refusals. */
-static void accepted_lists(enum call call, uint64_t price) {
-    struct spp_answer (*const search)(const uint8_t *, size_t, uint32_t, const struct spp_lists *, uint16_t *, size_t) =
-        call == SEARCH_WITH ? spp_search_with : spp_longest_with;
+/* Both searches with lists. */
+typedef struct spp_answer (*search_with)(const uint8_t *, size_t, uint32_t, const struct spp_lists *, uint16_t *, size_t);
+
+/* Refusals of lists through the header. */
+static void refused_lists(enum call call, search_with search) {
+    uint16_t found[5], twice[2] = {2, 2}, out_of_range[2] = {2, 9};
+    static uint16_t many[2 * SPP_MOST_PAIRS + 2];
+    struct spp_lists lists = lists_of(twice, 2, twice, 2, NULL, 0);
+    size_t i;
+    holds(search(file, 85, 1000, &lists, found, 5).refusal == SPP_OVERLAP, call, "one list lent as agreed and absent");
+    lists = lists_of(twice, 2, NULL, 0, twice, 2);
+    holds(search(file, 85, 1000, &lists, found, 5).refusal == SPP_OVERLAP, call, "one list lent as agreed and as pairs");
+    lists = lists_of(NULL, 0, found, 5, found, 2);
+    holds(search(file, 85, 1000, &lists, found, 5).refusal == SPP_OVERLAP, call, "the plan list lent as absent and as pairs");
+    lists = lists_of(twice, 2, absent, 1, pairs, 1);
+    holds(search(file, 85, 1000, &lists, found, 5).refusal == SPP_BAD_AGREED, call, "an agreed list that does not rise");
+    lists = lists_of(agreed, 1, twice, 2, pairs, 1);
+    holds(search(file, 85, 1000, &lists, found, 5).refusal == SPP_BAD_ABSENT, call, "an absent list that does not rise");
+    lists = lists_of(agreed, 1, absent, 1, pairs, 1);
+    holds(search(file, 85, 1000, &lists, found, 5).refusal == SPP_BAD_PAIR_COUNT, call, "one number in the list of pairs");
+    lists = lists_of(agreed, 1, absent, 1, twice, 2);
+    holds(search(file, 85, 1000, &lists, found, 5).refusal == SPP_BAD_PAIR, call, "a pair of a column and itself");
+    lists = lists_of(agreed, 1, absent, 1, out_of_range, 2);
+    holds(search(file, 85, 1000, &lists, found, 5).refusal == SPP_BAD_PAIR, call, "a pair with column 9 of 8");
+    for (i = 0; i < sizeof many / sizeof *many; i++) {
+        many[i] = (uint16_t)(i % 2 + 2);
+    }
+    lists = lists_of(NULL, 0, NULL, 0, many, 2 * SPP_MOST_PAIRS);
+    holds(search(file, 85, 1000, &lists, found, 5).refusal == SPP_ACCEPTED, call, "128 pairs");
+    lists = lists_of(NULL, 0, NULL, 0, many, 2 * SPP_MOST_PAIRS + 2);
+    holds(search(file, 85, 1000, &lists, found, 5).refusal == SPP_BAD_PAIR_COUNT, call, "129 pairs");
+}
+
+/* Searches of example 1 with lists: a struct of zeros gives the answer without lists, and other lists the stated answers. */
+static void accepted_lists(enum call call, uint64_t price, struct spp_answer with_pairs) {
+    const search_with search = call == SEARCH_WITH ? spp_search_with : spp_longest_with;
+    const spp_core_call core = call == SEARCH_WITH ? spp_core_search : spp_core_longest;
     struct spp_answer wanted = {0, SPP_BEST, 1, 3, 1, price, price};
-    struct spp_lists none = lists_of(NULL, 0, NULL, 0), lists = lists_of(agreed, 1, absent, 1);
-    uint16_t found[5], former_found[5], twice[2] = {2, 2};
+    struct spp_lists none = lists_of(NULL, 0, NULL, 0, NULL, 0), lists = lists_of(agreed, 1, absent, 1, NULL, 0);
+    uint16_t found[5], former_found[5], empty[2] = {0, 0};
     struct spp_answer answer = search(file, 85, 1000, &none, found, 5);
     struct spp_answer former = (call == SEARCH_WITH ? spp_search : spp_longest)(file, 85, 1000, former_found, 5);
     holds(equal_answers(answer, former) && !memcmp(found, former_found, sizeof plan), call, "no lists");
     answer = search(file, 85, 1000, &lists, found, 5);
     holds(equal_answers(answer, wanted) && !memcmp(found, longest_plan, sizeof plan), call, "agreed 2, absent 8");
-    lists = lists_of(twice, 2, twice, 2);
-    holds(search(file, 85, 1000, &lists, found, 5).refusal == SPP_OVERLAP, call, "one list lent as agreed and absent");
-    lists = lists_of(twice, 2, absent, 1);
-    holds(search(file, 85, 1000, &lists, found, 5).refusal == SPP_BAD_AGREED, call, "an agreed list that does not rise");
-    lists = lists_of(agreed, 1, twice, 2);
-    holds(search(file, 85, 1000, &lists, found, 5).refusal == SPP_BAD_ABSENT, call, "an absent list that does not rise");
+    lists = lists_of(NULL, 0, NULL, 0, pairs, 2);
+    answer = search(file, 85, 1000, &lists, found, 5);
+    holds(equal_answers(answer, with_pairs) && !memcmp(found, longest_plan, sizeof plan), call, "1 needs 5");
+    former = core(file, 85, 1000, empty, 0, empty + 1, 0, pairs, 2, former_found, 5);
+    holds(equal_answers(answer, former) && !memcmp(found, former_found, sizeof plan), call, "pairs, header and engine");
+    refused_lists(call, search);
 }
+
+/* A struct that gives the first four fields by their places, as a plug-in may, has no pairs. */
+#pragma GCC diagnostic push
+#pragma GCC diagnostic ignored "-Wmissing-field-initializers"
+static void four_fields(enum call call, uint64_t price) {
+    const struct spp_lists lists = {agreed, 1, absent, 1};
+    struct spp_answer wanted = {0, SPP_BEST, 1, 3, 1, price, price}, answer;
+    uint16_t found[5];
+    answer = (call == SEARCH_WITH ? spp_search_with : spp_longest_with)(file, 85, 1000, &lists, found, 5);
+    holds(lists.pairs == NULL && lists.pair_count == 0, call, "four fields given, no pairs");
+    holds(equal_answers(answer, wanted) && !memcmp(found, longest_plan, sizeof plan), call, "four fields given");
+}
+#pragma GCC diagnostic pop
 
 /* An answer list at an offset from the table's first byte, and the refusal, 0 for none. */
 static const struct {
@@ -620,6 +672,7 @@ static void accepted_desk(void) {
 
 /* Accepted calls through the header: stated values. */
 static void accepted(void) {
+    const struct spp_answer pairs_by_sum = {0, SPP_BEST, 1, 3, 1, 18, 18}, pairs_by_longest = {0, SPP_BEST, 1, 3, 1, 7, 7};
     uint32_t read_costs[8], reduced[8];
     uint16_t read_lengths[8];
     uint8_t read_rows[13], order[5];
@@ -635,8 +688,10 @@ static void accepted(void) {
     holds(order[0] == 1 && order[1] == 4 && order[2] == 2 && order[3] == 5, REDUCE, "the order of example 1");
     accepted_search(SEARCH, plan, 17, 17);
     accepted_search(LONGEST, longest_plan, 7, 6);
-    accepted_lists(SEARCH_WITH, 18);
-    accepted_lists(LONGEST_WITH, 7);
+    accepted_lists(SEARCH_WITH, 18, pairs_by_sum);
+    accepted_lists(LONGEST_WITH, 7, pairs_by_longest);
+    four_fields(SEARCH_WITH, 18);
+    four_fields(LONGEST_WITH, 7);
     accepted_assign();
     accepted_uncrewed();
     accepted_desk();
@@ -649,7 +704,7 @@ int main(void) {
     fill_table();
     accepted();
     for (call = READ; call < DESK_REPLY; call++) {
-        pairs((enum call)call);
+        two_lists((enum call)call);
         nulls((enum call)call);
     }
     answers_about_table();

@@ -6,6 +6,7 @@ typedef struct spp_answer (*search)(const uint8_t *, size_t, uint32_t, uint16_t 
 const search spp_header_searches[2] = {spp_search, spp_longest};
 typedef struct spp_answer (*search_with)(const uint8_t *, size_t, uint32_t, const struct spp_lists *, uint16_t *, size_t);
 const search_with spp_header_searches_with[2] = {spp_search_with, spp_longest_with};
+const spp_core_call spp_header_core_searches[2] = {spp_core_search, spp_core_longest};
 /* The engine's call and the guarded one are called alike. */
 typedef struct spp_assigned (*assign)(size_t, size_t, const uint32_t *, uint8_t *, size_t);
 const assign spp_header_assigns[2] = {spp_assign, spp_core_assign};
@@ -16,11 +17,12 @@ typedef struct spp_step (*step)(const uint8_t *, size_t, uint32_t, struct spp_de
 const step spp_header_steps[2] = {spp_desk_add, spp_desk_remove};
 const spp_core_step spp_header_core_steps[2] = {spp_core_desk_add, spp_core_desk_remove};
 
-/* The layout of struct spp_lists, as a type that is in error if it differs: four fields without a gap. */
+/* The layout of struct spp_lists, as a type that is in error if it differs: six fields without a gap. */
 #define WORDS_BEFORE(field) (offsetof(struct spp_lists, field) / sizeof(size_t))
 typedef char spp_header_lists_layout[WORDS_BEFORE(agreed) == 0 && WORDS_BEFORE(agreed_count) == 1 &&
                                              WORDS_BEFORE(absent) == 2 && WORDS_BEFORE(absent_count) == 3 &&
-                                             sizeof(struct spp_lists) == 4 * sizeof(size_t)
+                                             WORDS_BEFORE(pairs) == 4 && WORDS_BEFORE(pair_count) == 5 &&
+                                             sizeof(struct spp_lists) == 6 * sizeof(size_t)
                                          ? 1
                                          : -1];
 

@@ -111,10 +111,10 @@ pub fn reduce(report: &mut Report, file: &[u8], rooms: [usize; 2]) -> (Reduced, 
 
 type SearchCall = fn(Goal, &[u8], u32, Requests, &mut [u16]) -> Answer;
 
-/// A search's answer, and its lists after the call: the plan, the file, the agreed and the absent columns.
-type Searched = (Answer, Lent<u16>, Lent<u8>, [Lent<u16>; 2]);
+/// A search's answer, and its lists after the call: the plan, the file, the agreed and the absent columns and the pairs.
+type Searched = (Answer, Lent<u16>, Lent<u8>, [Lent<u16>; 3]);
 
-/// The search with two empty lists, against `plain` without lists.
+/// The search with empty lists, against `plain` without lists.
 pub fn search(report: &mut Report, goal: Goal, file: &[u8], limit: u32, room: usize) -> (Answer, Vec<u16>) {
     search_with(report, goal, file, limit, Requests::NONE, room)
 }
@@ -130,8 +130,8 @@ pub fn search_with(
 ) -> (Answer, Vec<u16>) {
     let run = |call: SearchCall| -> Searched {
         let (mut plan, lent_file) = (shorts(room), bytes(file.len()).holding(file));
-        let lists = [requests.agreed, requests.absent].map(|list| shorts(list.len()).holding(list));
-        let lent = Requests { agreed: lists[0].list(), absent: lists[1].list() };
+        let lists = [requests.agreed, requests.absent, requests.pairs].map(|list| shorts(list.len()).holding(list));
+        let lent = Requests { agreed: lists[0].list(), absent: lists[1].list(), pairs: lists[2].list() };
         let answer = call(goal, lent_file.list(), limit, lent, plan.list_mut());
         (answer, plan, black_box(lent_file), black_box(lists))
     };

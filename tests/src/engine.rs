@@ -45,6 +45,8 @@ extern "C" {
         agreed_count: usize,
         absent: *const u16,
         absent_count: usize,
+        pairs: *const u16,
+        pair_count: usize,
         plan: *mut u16,
         plan_count: usize,
     ) -> Answer;
@@ -56,6 +58,8 @@ extern "C" {
         agreed_count: usize,
         absent: *const u16,
         absent_count: usize,
+        pairs: *const u16,
+        pair_count: usize,
         plan: *mut u16,
         plan_count: usize,
     ) -> Answer;
@@ -129,7 +133,7 @@ pub fn reduce(file: &[u8], reduced: &mut [u32], order: &mut [u8]) -> Reduced {
     unsafe { spp_core_reduce(file.as_ptr(), file.len(), reduced.as_mut_ptr(), reduced.len(), order.as_mut_ptr(), order.len()) }
 }
 
-/// The search for a goal, with two empty lists.
+/// The search for a goal, with empty lists.
 pub fn search(goal: Goal, file: &[u8], limit: u32, plan: &mut [u16]) -> Answer {
     search_with(goal, file, limit, Requests::NONE, plan)
 }
@@ -139,7 +143,7 @@ pub fn search_with(goal: Goal, file: &[u8], limit: u32, requests: Requests, plan
         Goal::Sum => spp_core_search,
         Goal::Longest => spp_core_longest,
     };
-    let Requests { agreed, absent } = requests;
+    let Requests { agreed, absent, pairs } = requests;
     unsafe {
         call(
             file.as_ptr(),
@@ -149,6 +153,8 @@ pub fn search_with(goal: Goal, file: &[u8], limit: u32, requests: Requests, plan
             agreed.len(),
             absent.as_ptr(),
             absent.len(),
+            pairs.as_ptr(),
+            pairs.len(),
             plan.as_mut_ptr(),
             plan.len(),
         )

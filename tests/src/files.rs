@@ -128,6 +128,13 @@ pub fn example_7() -> Columns {
     example_1()
 }
 
+/// 64 rows, 256 columns of 16 rows each: 6,152 bytes.
+pub fn largest() -> Columns {
+    let body = |column: usize| (0..16).map(|part| (part * 4 + (column + part * column / 7) % 4) as u8 + 1).collect();
+    let costs = (0..256).map(|column| 1000 + (column * 7919) % 9973).collect();
+    Columns { rows: 64, costs, bodies: (0..256).map(body).collect() }
+}
+
 /// 17 rows, 256 columns, each of which covers all rows but one, so that any two share a row and no plan exists. Taking a column ends
 /// dead at once, and leaving one out leaves each row about 240 columns less one: the tree is one path of some 240 nodes, with a dead node
 /// beside each of them. 4,096 entries.

@@ -51,6 +51,9 @@ fn compare_all() -> bool {
     groups::limits::largest(&mut report);
     groups::lists::run(&mut report);
     groups::list_faults::run(&mut report);
+    groups::worked_pairs::run(&mut report);
+    groups::pairs::run(&mut report);
+    groups::pair_faults::run(&mut report);
     groups::damaged::run(&mut report);
     groups::rooms::run(&mut report);
     groups::deep::run(&mut report);

@@ -1,7 +1,10 @@
 //! A second solver. It tries sets of covered rows instead of branching on columns: a table gives the least price, by the goal, for each set
-//! that can be reached by covering the lowest open row again and again. It reads no file: it takes the columns as they were made.
+//! that can be reached by covering the lowest open row again and again. With pairs of columns, sets of rows count apart where other columns
+//! that stand in a pair were chosen for them, and the pairs are looked at once all rows are covered. It reads no file: it takes the columns as
+//! they were made.
 
 use std::collections::HashMap;
+use std::hash::Hash;
 
 use crate::files::Columns;
 use crate::goal::Goal;
@@ -63,26 +66,60 @@ pub fn least_price(columns: &Columns, goal: Goal, most: usize) -> Least {
     least_price_with(columns, goal, Requests::NONE, most)
 }
 
-/// The same, of the plans that hold every agreed column and no absent one. The numbers of both lists are in range.
+/// A set of columns: bit j % 64 of word j / 64 stands for column j + 1.
+type Chosen = [u64; 4];
+
+fn is_chosen(chosen: &Chosen, number: u16) -> bool {
+    let column = number as usize - 1;
+    chosen[column / 64] >> (column % 64) & 1 == 1
+}
+
+/// The same, of the plans that hold every agreed column and no absent one and obey the pairs. The numbers of all lists are in range.
 pub fn least_price_with(columns: &Columns, goal: Goal, requests: Requests, most: usize) -> Least {
+    let pairs = requests.pairs;
+    if pairs.is_empty() {
+        return least_remembering(columns, goal, requests, most, (), |(), _| (), |()| true);
+    }
+    let mut in_pairs: Chosen = [0; 4];
+    pairs.iter().for_each(|&number| in_pairs[(number as usize - 1) / 64] |= 1 << ((number as usize - 1) % 64));
+    let with = |mut chosen: Chosen, column: usize| {
+        chosen[column / 64] |= in_pairs[column / 64] & 1 << (column % 64);
+        chosen
+    };
+    let obeys = |chosen: &Chosen| pairs.chunks_exact(2).all(|pair| !is_chosen(chosen, pair[0]) || is_chosen(chosen, pair[1]));
+    least_remembering(columns, goal, requests, most, [0; 4], with, obeys)
+}
+
+/// The least price by a table that remembers something of the columns chosen for a set: `start` for none, and what `with` makes of it with
+/// one more column. Of the full sets, those count of which `obeys` holds.
+fn least_remembering<M: Copy + Eq + Hash>(
+    columns: &Columns,
+    goal: Goal,
+    requests: Requests,
+    most: usize,
+    start: M,
+    with_column: impl Fn(M, usize) -> M,
+    obeys: impl Fn(&M) -> bool,
+) -> Least {
     let sets = row_sets(columns);
     let starters = by_lowest_row(&sets, &left_by(requests, &sets), columns.rows);
     let rows = columns.rows as usize;
     // The sets whose lowest open row is each row; the last place is for all rows covered.
-    let mut tables: Vec<HashMap<u64, u64>> = vec![HashMap::new(); rows + 1];
-    tables[0].insert(0, 0);
+    let mut tables: Vec<HashMap<(u64, M), u64>> = vec![HashMap::new(); rows + 1];
+    tables[0].insert((0, start), 0);
     let mut size = 0;
     for row in 0..rows {
         let table = std::mem::take(&mut tables[row]);
         size += table.len();
-        for (covered, price) in table {
+        for ((covered, memory), price) in table {
             for &column in &starters[row] {
                 if covered & sets[column] != 0 {
                     continue;
                 }
                 let next = covered | sets[column];
                 let next_price = with(goal, price, columns.costs[column]);
-                let least = tables[next.trailing_ones() as usize].entry(next).or_insert(next_price);
+                let key = (next, with_column(memory, column));
+                let least = tables[next.trailing_ones() as usize].entry(key).or_insert(next_price);
                 *least = next_price.min(*least);
             }
         }
@@ -90,7 +127,24 @@ pub fn least_price_with(columns: &Columns, goal: Goal, requests: Requests, most:
             return Least::Unknown;
         }
     }
-    tables[rows].get(&all_rows(columns.rows)).map_or(Least::NoPlan, |&price| Least::Price(price))
+    let full = tables[rows].iter().filter(|((_, memory), _)| obeys(memory));
+    full.map(|(_, &price)| price).min().map_or(Least::NoPlan, Least::Price)
+}
+
+/// The same by going through all choices of columns. There are at most 20 columns.
+pub fn least_of_choices(columns: &Columns, goal: Goal, requests: Requests) -> Least {
+    let (sets, all) = (row_sets(columns), all_rows(columns.rows));
+    let numbers = |choice: u32| (0..sets.len()).filter(move |column| choice >> column & 1 == 1).map(|column| column as u16 + 1);
+    let covers_once = |choice: u32| {
+        let add = |covered: u64, number: u16| {
+            let set = sets[number as usize - 1];
+            (covered & set == 0).then_some(covered | set)
+        };
+        numbers(choice).try_fold(0, add) == Some(all)
+    };
+    let plans = (0..1 << sets.len()).filter(|&choice| covers_once(choice)).map(|choice| numbers(choice).collect::<Vec<u16>>());
+    let allowed = plans.filter(|plan| requests.are_met_by(plan));
+    allowed.map(|plan| price(columns, &plan, goal)).min().map_or(Least::NoPlan, Least::Price)
 }
 
 /// Calls `each` with every plan (columns numbered from 1, not sorted), up to `most` plans.

@@ -42,6 +42,10 @@ pub enum Refusal {
     TrialColumns,
     // The column of a step is out of range.
     StepColumn,
+    // A pair names a column out of range, or one column twice.
+    Pair,
+    // The list of pairs has an odd length, or more than 128 pairs.
+    PairCount,
 }
 
 // What a test, or a sequence of tests, comes to.
@@ -74,5 +78,7 @@ pub fn number(why: Refusal) -> u32
         Refusal::TableCost => 17,
         Refusal::TrialColumns => 18,
         Refusal::StepColumn => 19,
+        Refusal::Pair => 20,
+        Refusal::PairCount => 21,
     }
 }

@@ -17,7 +17,7 @@ fn search_line(file: &[u8], limit: u32, plan: &mut [u16], out: &mut [u8]) -> usi
     ensures { λ _. ⌜ now (plan .exit) ≡ filled (searching (now (file .entry)) limit (length (now (plan .entry)))) (planList (now (file .entry)) limit) (now (plan .entry)) ⌝ }
 {
     let none = [0u16; 0];
-    let answer = search::search(file, limit, &none, &none, plan);
+    let answer = search::search(file, limit, &none, &none, &none, plan);
     line::put_line(out, answer)
 }
 

@@ -15,13 +15,13 @@ use Rattle.rules.specs.declared.Forced.{Forced}
 use Rattle.rules.specs.declared.Goal.{Goal}
 use Rattle.rules.specs.Tree.{Variant, live, dead}
 use Rattle.rules.specs.Agreed.{without, withAll, agreedStart}
-use Rattle.rules.specs.Requests.{Requests, columnsOf, begun}
+use Rattle.rules.specs.Requests.{columnsOf}
 use Rattle.rules.specs.Goals.{searchFor}
 use Rattle.rules.proofs.Agreed.{without-good}
 use Rattle.rules.proofs.Goals.{WorkableFor, goal-steps}
 use Rattle.goals.specs.Taking.{Takes}
-use Rattle.requests.specs.Numbers.{Numbers, Takeable, Begins}
-use Rattle.requests.proofs.Numbers.{numbers-inside, numbers-low}
+use Rattle.rules.proofs.Numbers.{Numbers, numbers-inside, numbers-low}
+use Rattle.requests.specs.Numbers.{Takeable, Begins}
 
 -- the columns of a list from place k on
 abbrev rest : List ℕ → ℕ → List ℕ
@@ -104,19 +104,19 @@ module _ (g : Goal) (l js : List ℕ) (s₀ s : Node) (k : ℕ) (w : Taking g l 
   taking-end h = sym (ap (λ (is : List ℕ). withAll (o .join) p is s) (rest-end js k h)) ∙ w .left
 
 -- the absent columns left, then the agreed ones taken
-module _ (g : Goal) (l : List ℕ) (s : Node) (q : Requests) (b : Begins g l s q) where
-  pub begins-absent : Numbers 256 (q .absent)
-  begins-absent = numbers-low _ (q .absent) (b .absent) (b .some .kept .small .fits .wide)
+module _ (g : Goal) (l : List ℕ) (s : Node) (agreed absent : List ℕ) (b : Begins g l s agreed absent) where
+  pub begins-absent : Numbers 256 absent
+  begins-absent = numbers-low _ absent (b .absent) (b .some .kept .small .fits .wide)
 
-  pub begins-takeable : (t : Node) → t ≡ without (columnsOf (q .absent)) s → Takeable g l t (q .agreed)
+  pub begins-takeable : (t : Node) → t ≡ without (columnsOf absent) s → Takeable g l t agreed
   begins-takeable t e = record {
     some = rw e (without-good (matrixIn l) (b .some .kept .small .fits) (searchFor g (matrixIn l)) (IsPlan (matrixIn l)) (WorkableFor g l)
-        (goal-steps g l (b .some .kept)) (columnsOf (q .absent)) (numbers-inside _ (q .absent) (b .absent)) s (b .some));
+        (goal-steps g l (b .some .kept)) (columnsOf absent) (numbers-inside _ absent (b .absent)) s (b .some));
     numbered = b .agreed;
   }
 
-  pub begins-is : (t : Node) → t ≡ without (columnsOf (q .absent)) s → (r : Forced)
-      → r ≡ withAll (searchFor g (matrixIn l) .join) (matrixIn l) (columnsOf (q .agreed)) t
-      → r ≡ begun (searchFor g (matrixIn l)) (matrixIn l) q s
-  unfolding begun agreedStart
+  pub begins-is : (t : Node) → t ≡ without (columnsOf absent) s → (r : Forced)
+      → r ≡ withAll (searchFor g (matrixIn l) .join) (matrixIn l) (columnsOf agreed) t
+      → r ≡ agreedStart (searchFor g (matrixIn l) .join) (matrixIn l) (columnsOf agreed) (columnsOf absent) s
+  unfolding agreedStart
   begins-is t e r h = rw (← e) h

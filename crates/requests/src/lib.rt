@@ -6,10 +6,11 @@ use rules::Goal;
 ghost use mathlib.Core.Path.{_≡_};
 ghost use Rattle.node.specs.Matrix.{Matrix};
 ghost use Rattle.node.specs.Stored.{matrixIn};
-ghost use Rattle.rules.specs.Agreed.{without, withAll};
-ghost use Rattle.rules.specs.Requests.{asking, columnsOf, begun};
+ghost use Rattle.rules.specs.Agreed.{without, withAll, agreedStart};
+ghost use Rattle.rules.specs.Requests.{columnsOf};
 ghost use Rattle.rules.specs.Goals.{searchFor};
-ghost use Rattle.requests.specs.Numbers.{Numbers, Takeable, Begins};
+ghost use Rattle.rules.proofs.Numbers.{Numbers};
+ghost use Rattle.requests.specs.Numbers.{Takeable, Begins};
 
 // The columns with these numbers are no longer free.
 fn leave_all(mut s: Node, numbers: &[u16]) -> Node
@@ -54,8 +55,8 @@ fn take_all(goal: Goal, mut s: Node, numbers: &[u16], matrix: &[u16]) -> Forced
 
 // The start of a search for a goal, from the root.
 pub fn begin(goal: Goal, root: Node, agreed: &[u16], absent: &[u16], matrix: &[u16]) -> Forced
-    requires { ⌜ Begins goal (now matrix) root (asking (now agreed) (now absent)) ⌝ }
-    ensures { λ r. ⌜ (let p : Matrix = matrixIn (now (matrix .entry)) in r ≡ begun (searchFor goal p) p (asking (now (agreed .entry)) (now (absent .entry))) root) ⌝ }
+    requires { ⌜ Begins goal (now matrix) root (now agreed) (now absent) ⌝ }
+    ensures { λ r. ⌜ (let p : Matrix = matrixIn (now (matrix .entry)) in r ≡ agreedStart (searchFor goal p .join) p (columnsOf (now (agreed .entry))) (columnsOf (now (absent .entry))) root) ⌝ }
 {
     let fewer = leave_all(root, absent);
     take_all(goal, fewer, agreed, matrix)

@@ -14,7 +14,6 @@ use Rattle.rules.specs.declared.Forced.{Forced}
 use Rattle.rules.specs.Search.{none}
 use Rattle.rules.specs.Tree.{Variant, live, dead, answer}
 use Rattle.rules.specs.Identity.{Completion}
-use Rattle.rules.specs.Demand.{Demand3}
 use Rattle.rules.specs.Agreed.{without, withAll, agreedStart, Agreeing}
 use Rattle.node.proofs.Members.{here, there, member-cases}
 use Rattle.node.proofs.Shares.{meets-of}
@@ -23,7 +22,7 @@ use Rattle.rules.proofs.Decide.{Decided, stays, decided-kept, decided-t
 use Rattle.rules.proofs.Steps.{take-decides, take-comp, take-self, take-other, take-meets, leave-decides, leave-comp, leave-self, leave-taken}
 use Rattle.rules.proofs.Rows.{taken-is}
 use Rattle.rules.proofs.Variants.{Lowered, Forces, Stepping, Laws}
-use Rattle.rules.proofs.Demand.{demand-3, dead-answer}
+use Rattle.rules.proofs.Demand.{dead-answer}
 
 -- a column that is not in the rest of a list is not one of its columns
 apart : (j k : ℕ) (js : List ℕ) → member j js ≡ false → member k js ≡ true → k ≡ j → ⊥
@@ -283,7 +282,7 @@ module _ (p : Matrix) (F : FitsNode p) (o : Variant) (Ok : (ℕ → Bool) → Ty
         dead-answer o p (agreedStart (o .join) p agreed absent s)
         (took-shared agreed in-agreed (without absent s) j k m n d (meets-of p i j k l a b) (meets-of p i k j l b a)) limit one
 
--- A start with lists keeps the laws, so demand 3 holds of the plans that the lists allow.
+-- A start with lists keeps the laws, for the choices that the lists allow.
 module _ (p : Matrix) (F : FitsNode p) (o : Variant) (Ok : (ℕ → Bool) → Type 0) (value : (ℕ → Bool) → ℕ) (Good : Node → Type 0) (s : Node)
     (L : Laws p o (live s) Ok value Good) (agreed absent : List ℕ) (in-agreed : Inside p agreed) (in-absent : Inside p absent)
     (distinct : Distinct agreed) (all-free : (k : ℕ) → k < width p → isFree s k ≡ true) where
@@ -298,12 +297,6 @@ module _ (p : Matrix) (F : FitsNode p) (o : Variant) (Ok : (ℕ → Bool) → Ty
     above = λ t h. L .above t (h .good);
     exact = λ t h. L .exact t (h .good);
   }
-
-  pub agreed-demand-3 : (limit : ℕ)
-      → Demand3 p o (agreedStart (o .join) p agreed absent s) (Agreeing Ok agreed absent) value limit
-      (answer o p (agreedStart (o .join) p agreed absent s) limit)
-  agreed-demand-3 =
-      demand-3 p F o (Agreeing Ok agreed absent) value (Keeps Good agreed absent) (agreedStart (o .join) p agreed absent s) agreed-laws
 
 -- two empty lists give the former start
 pub agreed-none : (o : Variant) (p : Matrix) (s : Node) → agreedStart (o .join) p [] [] s ≡ live s

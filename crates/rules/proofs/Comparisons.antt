@@ -12,7 +12,7 @@ use Rattle.rules.specs.Reduce.{Comparison}
 use Rattle.rules.specs.Search.{Answer}
 use Rattle.rules.specs.Tree.{sumBy}
 use Rattle.rules.specs.Demand.{Demand3}
-use Rattle.rules.specs.Requests.{Requests, Granted}
+use Rattle.rules.specs.Requests.{Requests, requested, Granted}
 use Rattle.rules.specs.Comparisons.{startBy, answerBy, Alike}
 use Rattle.rules.proofs.Costs.{Good}
 use Rattle.rules.proofs.Sum.{sum-laws}
@@ -20,7 +20,7 @@ use Rattle.rules.proofs.Requests.{Askable, requested-demand-3}
 
 -- demand 3 of an answer, by a comparison
 abbrev DemandBy : Comparison → Matrix → List ℕ → Requests → ℕ → Answer → Type 0
-DemandBy before p cs q limit x = Demand3 p (sumBy before p) (startBy before p cs q) (Granted p q) (price p cs) limit x
+DemandBy before p cs q limit x = Demand3 p (requested p q (sumBy before p)) (startBy before p cs q) (Granted p q) (price p cs) limit x
 
 pub comparison-demand-3 : (before : Comparison) (p : Matrix) → FitsNode p → (cs : List ℕ) (q : Requests) → Askable p q → (limit : ℕ)
     → DemandBy before p cs q limit (answerBy before p cs q limit)

@@ -17,7 +17,7 @@ use Rattle.rules.specs.Reduce.{leastOf}
 use Rattle.rules.specs.declared.Forced.{Forced}
 use Rattle.rules.specs.Force.{force}
 use Rattle.rules.specs.Search.{Incumbent, nothing}
-use Rattle.rules.specs.Tree.{live, zeros, dearer, penalty, rowBefore, sharing, columnBefore, branchOn, reduced, living, visit, fullTree, rootBound, answer}
+use Rattle.rules.specs.Tree.{Variant, settledWith, live, zeros, dearer, penalty, rowBefore, sharing, columnBefore, branchOn, reduced, living, visit, fullTree, rootBound, answer}
 use Rattle.rules.specs.Identity.{Completion}
 use Rattle.rules.specs.Demand.{Demand3}
 use Rattle.rules.specs.Longest.{largest, dearest, topped, raised, excess, longest, floor, withBound, floored, byFloor}
@@ -30,7 +30,7 @@ use Rattle.rules.proofs.Rows.{size, open-in, in-open, free-in, in-free,
 use Rattle.rules.proofs.Variants.{Forces, Stepping, Laws, plain-forces}
 use Rattle.rules.proofs.Walks.{walk-same}
 use Rattle.rules.proofs.Visits.{Completes, visit-law}
-use Rattle.rules.proofs.Demand.{demand-3, dead-settled}
+use Rattle.rules.proofs.Demand.{demand-3, dead-answer, dead-settled}
 use Rattle.rules.proofs.Floors.{largest-le, le-largest, largest-cong, Tight, root-tight, take-tight, leave-tight, raised-tight, tight-floor}
 
 under : (f x : Bool) (v c : ℕ) → (f ≡ true → x ≡ true → v ≤ c) → on (f && x) v ≤ c
@@ -223,74 +223,85 @@ module _ (p : Matrix) (F : FitsNode p) (cs : List ℕ) where
       → Demand3 p (longest p) (live (root p cs)) (IsPlan p) (dearest p cs) limit (answer (longest p) p (live (root p cs)) limit)
   longest-demand-3 = demand-3 p F (longest p) (IsPlan p) (dearest p cs) (High p cs) (live (root p cs)) longest-laws
 
-  -- the bound that the search gives a node is P1's floor: where the node lives on after forcing, raised if a row is open
-  pub node-floor : (s : Node) → High p cs s → (t : Forced) → t ≡ longest p .settle s → t .alive ≡ true
-      → cond (isEmpty (openRows p (t .node))) (t .node .bound) (raised p (t .node) .bound) ≡ floor p cs (t .node)
-  node-floor s g t e h =
-      let f : Forces p (IsPlan p) (High p cs) s t = rw e (longest-laws .steps .forcing s g) in
-      tight-floor p cs (t .node) (f .good .tight) (f .two h)
+  -- a node that lives on after it is forced, in whichever way keeps the laws
+  module _ (settle : Node → Forced) (start : Forced) (Ok : (ℕ → Bool) → Type 0) (Good : Node → Type 0)
+      (L : Laws p (settledWith settle (longest p)) start Ok (dearest p cs) Good) (high : (t : Node) → Good t → High p cs t) where
+    abbrev o : Variant
+    o = settledWith settle (longest p)
 
-  -- by the open rows
-  floor-rows : (s : Node) → High p cs s → (t : Forced) → t ≡ longest p .settle s → t .alive ≡ true → (is : List ℕ) → openRows p (t .node) ≡ is
-      → cond (isEmpty is) (t .node .bound) (raised p (t .node) .bound) ≡ floor p cs (t .node)
-  floor-rows s g t e h is q = rw q at (node-floor s g t e h)
+    abbrev v : Variant
+    v = byFloor p cs settle
 
-  -- the search with the floor worked out anew visits each node alike,
-  floor-visit : (s : Node) (k : Incumbent) → High p cs s → visit (byFloor p cs) p s k ≡ visit (longest p) p s k
-  unfolding visit floored living reduced branchOn zeros dearer penalty rowBefore sharing columnBefore raised openRows taken isEmpty
-  floor-visit s k g = go (t .alive) refl (openRows p (t .node)) refl
-    where
-      t : Forced
-      t = force topped p s
+    -- the bound that the search gives it is P1's floor, raised if a row is open
+    pub node-floor : (s : Node) → Good s → settle s .alive ≡ true →
+        let t : Node = settle s .node in
+        cond (isEmpty (openRows p t)) (t .bound) (raised p t .bound) ≡ floor p cs t
+    node-floor s g h =
+        let f : Forces p Ok Good s (settle s) = L .steps .forcing s g in
+        tight-floor p cs (settle s .node) (high _ (f .good) .tight) (f .two h)
 
-      u : Node
-      u = withBound (t .node) (floor p cs (t .node))
+    -- by the open rows
+    floor-rows : (s : Node) → Good s → settle s .alive ≡ true → (is : List ℕ) → openRows p (settle s .node) ≡ is
+        → cond (isEmpty is) (settle s .node .bound) (raised p (settle s .node) .bound) ≡ floor p cs (settle s .node)
+    floor-rows s g h is q = rw q at (node-floor s g h)
 
-      go : (b : Bool) → t .alive ≡ b → (is : List ℕ) → openRows p (t .node) ≡ is
-          → visit (byFloor p cs) p s k ≡ visit (longest p) p s k
-      go false e is q = rw e
-      go true e is q = rw (e, q) (by-rows is (floor-rows s g t refl e is q))
-        where
-          by-rows : (js : List ℕ) → cond (isEmpty js) (t .node .bound) (raised p (t .node) .bound) ≡ floor p cs (t .node)
-              → living (byFloor p cs) p u k js ≡ living (longest p) p (t .node) k js
-          by-rows [] h = rw h
-          by-rows (i ∷ js) h = rw h
-
-  -- from a first node, the root or one that lists give
-  module _ (s : Node) (Ok : (ℕ → Bool) → Type 0) (Good : Node → Type 0) (L : Laws p (longest p) (live s) Ok (dearest p cs) Good)
-      (high : (t : Node) → Good t → High p cs t) where
-    first-high : High p cs s
-    first-high = high s (L .start-good refl)
-
-    -- its lower bound (02: root floor) is its floor when it is forced
-    pub root-floor : (t : Forced) → t ≡ longest p .settle s → t .alive ≡ true → rootBound (longest p) p (live s) ≡ floor p cs (t .node)
-    unfolding rootBound
-    root-floor t e h = rw (← e) (node-floor s first-high t e h)
-
-    -- so the search with the floor worked out anew walks the same tree,
-    floor-tree : fullTree (byFloor p cs) p (live s) ≡ fullTree (longest p) p (live s)
-    unfolding fullTree
-    floor-tree =
-        walk-same Ok (dearest p cs) (Shows p Ok (dearest p cs)) Good (size p) (Completes p Ok) (visit (longest p) p)
-        (visit-law p F (longest p) Ok (dearest p cs) Good (live s) L) (visit (byFloor p cs) p) (λ t k g. floor-visit t k (high t g))
-        (suc (width p)) s nothing (L .start-good refl)
-
-    floor-bound : force topped p s .alive ≡ true → rootBound (byFloor p cs) p (live s) ≡ rootBound (longest p) p (live s)
-    unfolding floored rootBound
-    floor-bound e =
-        let t : Forced = force topped p s in
-        let u : Node = withBound (t .node) (floor p cs (t .node)) in
-        rw e (both (isEmpty (openRows p u)) (u .bound)) ∙ sym (root-floor t refl e)
+    -- the search with the floor worked out anew visits each node alike,
+    floor-visit : (s : Node) (k : Incumbent) → Good s → visit v p s k ≡ visit o p s k
+    unfolding visit floored living reduced branchOn zeros dearer penalty rowBefore sharing columnBefore raised openRows taken isEmpty
+    floor-visit s k g = go (t .alive) refl (openRows p (t .node)) refl
       where
-        both : (b : Bool) (n : ℕ) → cond b n n ≡ n
-        both true n = refl
-        both false n = refl
+        t : Forced
+        t = settle s
+
+        u : Node
+        u = withBound (t .node) (floor p cs (t .node))
+
+        go : (b : Bool) → t .alive ≡ b → (is : List ℕ) → openRows p (t .node) ≡ is → visit v p s k ≡ visit o p s k
+        go false e is q = rw e
+        go true e is q = rw (e, q) (by-rows is (floor-rows s g e is q))
+          where
+            by-rows : (js : List ℕ) → cond (isEmpty js) (t .node .bound) (raised p (t .node) .bound) ≡ floor p cs (t .node)
+                → living v p u k js ≡ living o p (t .node) k js
+            by-rows [] h = rw h
+            by-rows (i ∷ js) h = rw h
+
+    -- from a first node that is alive, the root or one that lists give
+    module _ (alive : start .alive ≡ true) where
+      abbrev s : Node
+      s = start .node
+
+      -- its lower bound (02: root floor) is its floor when it is forced
+      pub root-floor : settle (start .node) .alive ≡ true → rootBound (settledWith settle (longest p)) p start ≡ floor p cs (settle (start .node) .node)
+      unfolding rootBound
+      root-floor h = node-floor s (L .start-good alive) h
+
+      -- so the search with the floor worked out anew walks the same tree,
+      floor-tree : fullTree v p start ≡ fullTree o p start
+      unfolding fullTree
+      floor-tree =
+          rw alive (walk-same Ok (dearest p cs) (Shows p Ok (dearest p cs)) Good (size p) (Completes p Ok) (visit o p)
+          (visit-law p F o Ok (dearest p cs) Good start L) (visit v p) (λ t k g. floor-visit t k g)
+          (suc (width p)) s nothing (L .start-good alive))
+
+      floor-bound : settle s .alive ≡ true → rootBound v p start ≡ rootBound o p start
+      unfolding floored rootBound
+      floor-bound e =
+          let t : Forced = settle s in
+          let u : Node = withBound (t .node) (floor p cs (t .node)) in
+          rw e (both (isEmpty (openRows p u)) (u .bound)) ∙ sym (root-floor e)
+        where
+          both : (b : Bool) (n : ℕ) → cond b n n ≡ n
+          both true n = refl
+          both false n = refl
 
     -- and answers alike, for any allowance
-    pub floor-answer : (limit : ℕ) → 1 ≤ limit → answer (byFloor p cs) p (live s) limit ≡ answer (longest p) p (live s) limit
+    pub floor-answer : (limit : ℕ) → 1 ≤ limit → answer (byFloor p cs settle) p start limit ≡ answer (settledWith settle (longest p)) p start limit
     unfolding answer floored
-    floor-answer limit l = go (force topped p s .alive) refl
+    floor-answer limit l = go (start .alive) refl (settle (start .node) .alive) refl
       where
-        go : (b : Bool) → force topped p s .alive ≡ b → answer (byFloor p cs) p (live s) limit ≡ answer (longest p) p (live s) limit
-        go true e = rw (floor-tree, floor-bound e)
-        go false e = dead-settled (byFloor p cs) p s (rw e) _ limit l ∙ sym (dead-settled (longest p) p s e _ limit l)
+        go : (a : Bool) → start .alive ≡ a → (b : Bool) → settle (start .node) .alive ≡ b → answer v p start limit ≡ answer o p start limit
+        go false d b e = dead-answer v p start d limit l ∙ sym (dead-answer o p start d limit l)
+        go true d true e = rw (floor-tree d, floor-bound d e)
+        go true d false e =
+            let is : start ≡ live (start .node) = rw (← d) in
+            rw is (dead-settled v p (start .node) (rw e) _ limit l ∙ sym (dead-settled o p (start .node) e _ limit l))

@@ -48,12 +48,12 @@ longest p = record { settle = force topped p; join = topped; lowered = raised p;
 unfoldable pub floor : Matrix → List ℕ → Node → ℕ
 floor p costs s = max (dearest p costs (isTaken s)) (largest (λ i. least (λ j. getD costs j 0) (freeOf p s i)) (openRows p s))
 
--- the same search with that floor worked out anew, at each node that lives on after forcing
+-- the same search with that floor worked out anew, at each node that lives on after it is forced, in whichever way
 abbrev pub withBound : Node → ℕ → Node
 withBound s b = record { cost = s .cost; column = s .column; row = s .row; bound = b }
 
 unfoldable pub floored : Matrix → List ℕ → Forced → Forced
 floored p costs f = cond (f .alive) (record { node = withBound (f .node) (floor p costs (f .node)); alive = true }) f
 
-abbrev pub byFloor : Matrix → List ℕ → Variant
-byFloor p costs = record { settle = λ s. floored p costs (force topped p s); join = topped; lowered = λ s. s; present = excess }
+abbrev pub byFloor : Matrix → List ℕ → (Node → Forced) → Variant
+byFloor p costs settle = record { settle = λ s. floored p costs (settle s); join = topped; lowered = λ s. s; present = excess }

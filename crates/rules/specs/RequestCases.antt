@@ -10,18 +10,19 @@ use Rattle.rules.specs.Tree.{Variant, sum}
 use Rattle.rules.specs.Files.{file, told, usual, example4}
 use Rattle.rules.specs.Longest.{largest, raised, longest}
 use Rattle.rules.specs.Agreed.{without, withAll, agreedStart}
-use Rattle.rules.specs.Requests.{asking, begun}
+use Rattle.rules.specs.Pairs.{pairsOf, pass, pairedBy, paired}
+use Rattle.rules.specs.Requests.{Requests, asking, begun, requested}
 
-abbrev with : (Matrix → Variant) → Instance → ℕ → List ℕ → List ℕ → Answer
-with search p limit agreed absent =
+abbrev pub with : (Matrix → Variant) → Instance → ℕ → Requests → Answer
+with search p limit q =
     let m : Matrix = p .matrix in
-    told (search m) m (begun (search m) m (asking agreed absent) (root m (p .costs))) limit
+    told (requested m q (search m)) m (begun (search m) m q (root m (p .costs))) limit
 
 abbrev solvedWith : Instance → ℕ → List ℕ → List ℕ → Answer
-solvedWith = with sum
+solvedWith p limit agreed absent = with sum p limit (asking agreed absent [])
 
 abbrev foundWith : Instance → ℕ → List ℕ → List ℕ → Answer
-foundWith = with longest
+foundWith p limit agreed absent = with longest p limit (asking agreed absent [])
 
 -- column 1 is taken before forcing, which would take it too; were it taken after, it would not be free then
 abbrev oneColumn : Instance
@@ -80,5 +81,5 @@ requestCases :
     ∷ best 9 9 2 (1 ∷ 3 ∷ [])
     ∷ best 3 3 1 (2 ∷ 4 ∷ [])
     ∷ [])
-unfolding told largest raised without withAll agreedStart begun
+unfolding told largest raised without withAll agreedStart begun pairsOf pass pairedBy paired
 requestCases = refl

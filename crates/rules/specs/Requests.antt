@@ -1,4 +1,4 @@
--- What a desk asks of a plan besides (02, from P2 on): where the search then starts, and which choices count.
+-- What a desk asks of a plan besides (02, from P2 on): where the search then starts, what it does at every node, and which choices count.
 use mathlib.Core.Bool.{Bool}
 use mathlib.Core.List.{List, [], map}
 use Prim.Native.Nat.{ℕ, _-_}
@@ -7,18 +7,20 @@ use Rattle.node.specs.Matrix.{Matrix, IsPlan}
 use Rattle.rules.specs.declared.Forced.{Forced}
 use Rattle.rules.specs.Tree.{Variant}
 use Rattle.rules.specs.Agreed.{agreedStart, Agreeing}
+use Rattle.rules.specs.Pairs.{pairsOf, withPairs, Paired}
 
 -- the lists as they are lent, with columns numbered from 1
 pub record Requests : Type 0 where
   pub agreed : List ℕ
   pub absent : List ℕ
+  pub pairs : List ℕ
 
-abbrev pub asking : List ℕ → List ℕ → Requests
-asking agreed absent = record { agreed = agreed; absent = absent }
+abbrev pub asking : List ℕ → List ℕ → List ℕ → Requests
+asking agreed absent pairs = record { agreed = agreed; absent = absent; pairs = pairs }
 
 -- nothing is asked
 abbrev pub unasked : Requests
-unasked = asking [] []
+unasked = asking [] [] []
 
 -- the columns with these numbers
 abbrev pub columnsOf : List ℕ → List ℕ
@@ -28,6 +30,10 @@ columnsOf = map (λ j. j - 1)
 unfoldable pub begun : Variant → Matrix → Requests → Node → Forced
 begun o p q = agreedStart (o .join) p (columnsOf (q .agreed)) (columnsOf (q .absent))
 
--- the choices that count: the plans that hold every agreed column and no absent one
+-- a search with what is asked at every node
+abbrev pub requested : Matrix → Requests → Variant → Variant
+requested p q o = withPairs p (pairsOf (q .pairs)) o
+
+-- the choices that count: the plans that obey the pairs, hold every agreed column and no absent one
 abbrev pub Granted : Matrix → Requests → (ℕ → Bool) → Type 0
-Granted p q = Agreeing (IsPlan p) (columnsOf (q .agreed)) (columnsOf (q .absent))
+Granted p q = Agreeing (Paired (IsPlan p) (pairsOf (q .pairs))) (columnsOf (q .agreed)) (columnsOf (q .absent))

@@ -21,6 +21,10 @@ pub record Variant : Type 0 where
   pub lowered : Node → Node
   pub present : Node → ℕ → ℕ
 
+-- a search with another way to force a node
+abbrev pub settledWith : (Node → Forced) → Variant → Variant
+settledWith f o = record { settle = f; join = o .join; lowered = o .lowered; present = o .present }
+
 -- the bound with column j taken: its present cost joins
 abbrev pub joined : Node → ℕ → ℕ
 joined s j = s .bound + costAt s j

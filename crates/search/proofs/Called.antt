@@ -16,8 +16,9 @@ use Rattle.rules.specs.Search.{Answer, plan, shownBy}
 use Rattle.rules.specs.declared.Goal.{Goal}
 use Rattle.rules.specs.declared.Forced.{Forced}
 use Rattle.rules.specs.Tree.{answer}
-use Rattle.rules.specs.Goals.{searchFor, valueFor}
-use Rattle.rules.specs.Requests.{Requests, begun, Granted}
+use Rattle.rules.specs.Agreed.{agreedStart}
+use Rattle.rules.specs.Goals.{searchFor, searchWith, valueFor}
+use Rattle.rules.specs.Requests.{Requests, columnsOf, begun, Granted}
 use Rattle.rules.proofs.Plans.{plan-short}
 use Rattle.rules.proofs.Goals.{WorkableFor, goal-root}
 use Rattle.rules.proofs.Requests.{Askable, begun-workable}
@@ -83,22 +84,30 @@ module _ (g : Goal) (s : List ℕ) (limit places : ℕ) (q : Requests) where
     workable : WorkableFor g l (root (matrixIn l) (w .costs))
     workable = goal-root g l (w .costs) (w .file .workable)
 
-    pub begins : Begins g l first q
+    pub begins : Begins g l first (q .agreed) (q .absent)
     begins =
         let n = numbers (matrixIn l) found q (w .file .columns-is) fits-lists in
         record { some = rw (w .is) workable; agreed = n .0; absent = n .1 }
 
-    module _ (start : Forced) (starts : start ≡ begun (searchFor g (matrixIn l)) (matrixIn l) q first) where
-      pub searchable : Searchable g l (start .node) limit
-      unfolding callFault
+    module _ (start : Forced)
+        (starts : start ≡ agreedStart (searchFor g (matrixIn l) .join) (matrixIn l) (columnsOf (q .agreed)) (columnsOf (q .absent)) first) where
+      pub searchable : Searchable g (q .pairs) l (start .node) limit
+      unfolding callFault begun
       searchable =
           let h = ask-within 1 1000000 limit 11 (both _ _ fits-call .1) in
           let a : Askable (matrixIn l) q = listed (matrixIn l) found q (w .file .columns-is) fits-lists in
-          record { some = rw (starts, w .is) (begun-workable g l (w .costs) q a workable); one = h .least; limited = h .most }
+          record {
+            some = record {
+              some = rw (starts, w .is) (begun-workable g l (w .costs) q a workable);
+              fits = numbers (matrixIn l) found q (w .file .columns-is) fits-lists .2;
+            };
+            one = h .least;
+            limited = h .most;
+          }
 
-      module _ (done : Solved) (ends : solvedAnswer (width (matrixIn l)) done ≡ answer (searchFor g (matrixIn l)) (matrixIn l) start limit) where
+      module _ (done : Solved) (ends : solvedAnswer (width (matrixIn l)) done ≡ answer (searchWith g (q .pairs) (matrixIn l)) (matrixIn l) start limit) where
         answers : solvedAnswer (found .columns) done ≡ answerFor g s limit q
-        unfolding answerFor instance
+        unfolding answerFor instance begun
         answers = rw (← w .file .columns-is) (ends ∙ rw (starts, w .is ∙ w .file .root-is, w .file .is))
 
         small : Small (instance (parse s) .matrix)
@@ -117,7 +126,7 @@ module _ (g : Goal) (s : List ℕ) (limit places : ℕ) (q : Requests) where
               let e : shownBy (answerFor g s limit q) ≡ plan (done .tally .cost) js = rw answers at (kept-shown (found .columns) done h) in
               let x : Shows p (Granted p q) (valueFor g p (parse s .costs)) (done .tally .cost) js = demand .shown _ _ e in
               let r : found .rows ≤ places = leb-true _ _ (asked _ 10 (both _ _ fits-call .0)) in
-              omega (arith, plan-short p small js (x .listed) (x .ok .ok), rw (w .file .is) at (w .file .rows-is), r);
+              omega (arith, plan-short p small js (x .listed) (x .ok .ok .ok), rw (w .file .is) at (w .file .rows-is), r);
         }
 
         module _ (r : SearchAnswer) (told : searchOutcome r ≡ accepted (valuesOf (solvedAnswer (found .columns) done))) where

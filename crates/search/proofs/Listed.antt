@@ -15,9 +15,9 @@ use Rattle.rules.proofs.Requests.{Askable}
 use Rattle.dutyfile.specs.declared.Shape.{Shape}
 use Rattle.dutyfile.specs.Faults.{rising}
 use Rattle.dutyfile.proofs.Rising.{rising-at, rising-cons}
-use Rattle.requests.specs.Numbers.{Numbers}
-use Rattle.requests.proofs.Numbers.{numbers-inside}
-use Rattle.search.specs.Requests.{requestFault}
+use Rattle.rules.proofs.Numbers.{Numbers, numbers-inside, numbers-pairs}
+use Rattle.search.specs.Requests.{pairFault, requestFault}
+use Rattle.search.proofs.Paired.{pair-numbers}
 
 -- of a rising list: no column up to the lower bound is there
 none-below : (low high : ℕ) (js : List ℕ) (j : ℕ) → rising low high js ≡ true → j < low → member j (columnsOf js) ≡ false
@@ -34,16 +34,24 @@ rising-distinct low high (x ∷ xs) e =
     (none-below x high xs (x - 1) (c .2) (omega (arith, c .0)), rising-distinct x high xs (c .2))
 
 module _ (p : Matrix) (found : Shape) (q : Requests) (w : width p ≡ found .columns) (h : requestFault found q ≡ fine) where
-  rises : (rising 0 (width p) (q .agreed) ≡ true) × (rising 0 (width p) (q .absent) ≡ true)
+  passes : (rising 0 (width p) (q .agreed) ≡ true) × (rising 0 (width p) (q .absent) ≡ true) × (pairFault (width p) (q .pairs) ≡ fine)
   unfolding requestFault
-  rises = let b = both _ _ h in rw w (asked _ 14 (b .0), asked _ 15 (b .1))
+  passes =
+      let b = both _ _ h in
+      let d = both _ _ (b .1) in
+      rw w (asked _ 14 (b .0), asked _ 15 (d .0), d .1)
 
-  pub numbers : Numbers (width p) (q .agreed) × Numbers (width p) (q .absent)
-  numbers = (λ k l. rising-at 0 (width p) (q .agreed) k (rises .0) l, λ k l. rising-at 0 (width p) (q .absent) k (rises .1) l)
+  pub numbers : Numbers (width p) (q .agreed) × Numbers (width p) (q .absent) × Numbers (width p) (q .pairs)
+  numbers = (
+    λ k l. rising-at 0 (width p) (q .agreed) k (passes .0) l,
+    λ k l. rising-at 0 (width p) (q .absent) k (passes .1) l,
+    pair-numbers (width p) (q .pairs) (passes .2),
+  )
 
   pub listed : Askable p q
   listed = record {
     agreed = numbers-inside (width p) (q .agreed) (numbers .0);
     absent = numbers-inside (width p) (q .absent) (numbers .1);
-    distinct = rising-distinct 0 (width p) (q .agreed) (rises .0);
+    pairs = numbers-pairs (width p) (q .pairs) (numbers .2);
+    distinct = rising-distinct 0 (width p) (q .agreed) (passes .0);
   }

@@ -1,30 +1,32 @@
--- Two empty lists give the answers of before (02, P2): for every file, node limit and plan list the search call comes to what 01's came to
--- and its list holds the same, and so it is for the longest duty.
-use mathlib.Core.Path.{_≡_, refl, ap}
-use mathlib.Core.List.{List}
+-- Empty lists give the answers of before, for every file, node limit and plan list, in outcome and list, for both goals: an empty list of
+-- pairs those that P2 had (02, P8), and with it two empty lists of columns those of 01 and of P1 (02, P2).
+use mathlib.Core.Path.{_≡_, refl, ap, _∙_}
+use mathlib.Core.List.{List, []}
 use Prim.Native.Nat.{ℕ}
 use Rattle.refusals.specs.Refusals.{Fault, fine, fault, ask, _then_}
 use Rattle.node.specs.Matrix.{Matrix, Instance}
 use Rattle.node.specs.Node.{root}
 use Rattle.rules.specs.declared.Forced.{Forced}
 use Rattle.rules.specs.Search.{Answer, shownBy}
-use Rattle.rules.specs.Tree.{sum, answer}
+use Rattle.rules.specs.Tree.{Variant, sum, live, answer}
 use Rattle.rules.specs.Longest.{longest}
-use Rattle.rules.specs.Requests.{unasked}
-use Rattle.rules.proofs.Requests.{begun-none}
+use Rattle.rules.specs.Pairs.{pairsOf}
+use Rattle.rules.specs.Requests.{asking, unasked, begun, requested}
+use Rattle.rules.proofs.Agreed.{agreed-none}
+use Rattle.rules.proofs.Pairs.{paired-none}
 use Rattle.dutyfile.specs.File.{parse, instance, shape}
 use Rattle.dutyfile.specs.Faults.{rising, fileFault}
 use Rattle.answer.specs.Answer.{planNumbers}
 use Rattle.search.specs.Searching.{callFault, fileAnswer, searching, planList}
 use Rattle.search.specs.Longest.{longestAnswer, longestSearching, longestList}
-use Rattle.search.specs.Requests.{requestFault, callFaultWith, faultWith, answerWith, searchingWith, planListWith}
+use Rattle.search.specs.Agreed.{agreedFault, agreedAnswer, agreedSearching, agreedList}
+use Rattle.search.specs.Requests.{arePairs, pairFault, requestFault, callFaultWith, faultWith, answerWith, searchingWith, planListWith}
 use Rattle.search.specs.Requests.{longestAnswerWith, longestSearchingWith, longestListWith}
 
-then-fine : (a b : Fault) → (a then b then fine) ≡ (a then b)
+then-fine : (a : Fault) → (a then fine) ≡ a
 unfolding _then_
-then-fine fine fine = refl
-then-fine fine (fault k) = refl
-then-fine (fault k) b = refl
+then-fine fine = refl
+then-fine (fault k) = refl
 
 module _ (file : List ℕ) (limit : ℕ) where
   abbrev p : Instance
@@ -33,33 +35,59 @@ module _ (file : List ℕ) (limit : ℕ) where
   abbrev m : Matrix
   m = p .matrix
 
-  -- the tests
-  faults : (places : ℕ) → faultWith file limit unasked places ≡ (fileFault file then callFault (shape file) places limit)
-  unfolding faultWith callFaultWith requestFault rising ask _then_
-  faults places = then-fine (fileFault file) (callFault (shape file) places limit)
+  -- an empty list of pairs
+  module _ (agreed absent : List ℕ) where
+    faults : (places : ℕ) → faultWith file limit (asking agreed absent []) places ≡ agreedFault file limit agreed absent places
+    unfolding faultWith callFaultWith requestFault pairFault arePairs agreedFault ask
+    faults places = simp then-fine
 
-  -- the search
-  answers : answerWith file limit unasked ≡ fileAnswer file limit
-  unfolding answerWith fileAnswer
-  answers = ap (λ (r : Forced). answer (sum m) m r limit) (begun-none (sum m) m (root m (p .costs)))
+    answers : (search : Matrix → Variant)
+        → answer (requested m (asking agreed absent []) (search m)) m (begun (search m) m (asking agreed absent []) (root m (p .costs))) limit
+        ≡ agreedAnswer search file limit agreed absent
+    unfolding pairsOf begun agreedAnswer
+    answers search =
+        let start : Forced = begun (search m) m (asking agreed absent []) (root m (p .costs)) in
+        ap (λ (o : Variant). answer o m start limit) (paired-none m (search m))
+
+    pub unpaired-search : (places : ℕ)
+        → searchingWith file limit (asking agreed absent []) places ≡ agreedSearching sum file limit agreed absent places
+    unfolding searchingWith answerWith agreedSearching
+    unpaired-search places = rw (faults places, answers sum)
+
+    pub unpaired-list : planListWith file limit (asking agreed absent []) ≡ agreedList sum file limit agreed absent
+    unfolding planListWith answerWith agreedList
+    unpaired-list = rw (answers sum)
+
+    pub unpaired-longest : (places : ℕ)
+        → longestSearchingWith file limit (asking agreed absent []) places ≡ agreedSearching longest file limit agreed absent places
+    unfolding longestSearchingWith longestAnswerWith agreedSearching
+    unpaired-longest places = rw (faults places, answers longest)
+
+    pub unpaired-longest-list : longestListWith file limit (asking agreed absent []) ≡ agreedList longest file limit agreed absent
+    unfolding longestListWith longestAnswerWith agreedList
+    unpaired-longest-list = rw (answers longest)
+
+  -- two empty lists of columns besides
+  no-faults : (places : ℕ) → agreedFault file limit [] [] places ≡ (fileFault file then callFault (shape file) places limit)
+  unfolding agreedFault rising ask _then_
+  no-faults places = rw (then-fine (callFault (shape file) places limit))
+
+  no-lists : (search : Matrix → Variant) → agreedAnswer search file limit [] [] ≡ answer (search m) m (live (root m (p .costs))) limit
+  unfolding agreedAnswer
+  no-lists search = ap (λ (r : Forced). answer (search m) m r limit) (agreed-none (search m) m (root m (p .costs)))
 
   pub unasked-search : (places : ℕ) → searchingWith file limit unasked places ≡ searching file limit places
-  unfolding searchingWith searching
-  unasked-search places = rw (faults places, answers)
+  unfolding agreedSearching searching fileAnswer
+  unasked-search places = unpaired-search [] [] places ∙ rw (no-faults places, no-lists sum)
 
   pub unasked-list : planListWith file limit unasked ≡ planList file limit
-  unfolding planListWith planList
-  unasked-list = ap (λ (x : Answer). planNumbers (shownBy x)) answers
-
-  -- the longest-duty search
-  longest-answers : longestAnswerWith file limit unasked ≡ longestAnswer file limit
-  unfolding longestAnswerWith longestAnswer
-  longest-answers = ap (λ (r : Forced). answer (longest m) m r limit) (begun-none (longest m) m (root m (p .costs)))
+  unfolding agreedList planList fileAnswer
+  unasked-list = unpaired-list [] [] ∙ rw (no-lists sum)
 
   pub unasked-longest : (places : ℕ) → longestSearchingWith file limit unasked places ≡ longestSearching file limit places
-  unfolding longestSearchingWith longestSearching
-  unasked-longest places = rw (faults places, longest-answers)
+  unfolding agreedSearching longestSearching longestAnswer
+  unasked-longest places = unpaired-longest [] [] places ∙ rw (no-faults places, no-lists longest)
 
   pub unasked-longest-list : longestListWith file limit unasked ≡ longestList file limit
-  unfolding longestListWith longestList
-  unasked-longest-list = ap (λ (x : Answer). planNumbers (shownBy x)) longest-answers
+  unfolding agreedList longestList longestAnswer
+  unasked-longest-list = unpaired-longest-list [] [] ∙ rw (no-lists longest)

@@ -9,7 +9,7 @@ use Rattle.rules.specs.Search.{Answer, shownBy}
 use Rattle.rules.specs.Tree.{answer}
 use Rattle.rules.specs.Demand.{Demand3}
 use Rattle.rules.specs.Goals.{searchFor, valueFor}
-use Rattle.rules.specs.Requests.{Requests, begun, Granted}
+use Rattle.rules.specs.Requests.{Requests, begun, requested, Granted}
 use Rattle.dutyfile.specs.File.{parse, instance}
 use Rattle.answer.specs.Answer.{Values, valuesOf, planNumbers}
 use Rattle.search.specs.Requests.{faultWith}
@@ -18,7 +18,7 @@ unfoldable pub answerFor : Goal → List ℕ → ℕ → Requests → Answer
 answerFor g file limit q =
     let p : Instance = instance (parse file) in
     let m : Matrix = p .matrix in
-    answer (searchFor g m) m (begun (searchFor g m) m q (root m (p .costs))) limit
+    answer (requested m q (searchFor g m)) m (begun (searchFor g m) m q (root m (p .costs))) limit
 
 unfoldable pub searchingFor : Goal → List ℕ → ℕ → Requests → ℕ → Outcome Values
 searchingFor g file limit q places = unless (faultWith file limit q places) (valuesOf (answerFor g file limit q))
@@ -31,4 +31,4 @@ abbrev pub DemandFor : Goal → List ℕ → ℕ → Requests → Answer → Typ
 DemandFor g file limit q x =
     let p : Instance = instance (parse file) in
     let m : Matrix = p .matrix in
-    Demand3 m (searchFor g m) (begun (searchFor g m) m q (root m (p .costs))) (Granted m q) (valueFor g m (p .costs)) limit x
+    Demand3 m (requested m q (searchFor g m)) (begun (searchFor g m) m q (root m (p .costs))) (Granted m q) (valueFor g m (p .costs)) limit x

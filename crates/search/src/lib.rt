@@ -16,17 +16,68 @@ ghost use Rattle.rules.specs.Search.{Answer};
 ghost use Rattle.rules.specs.Tree.{sum};
 ghost use Rattle.rules.specs.Demand.{Demand3};
 ghost use Rattle.rules.specs.Longest.{dearest, longest};
-ghost use Rattle.rules.specs.Requests.{Requests, asking, begun, Granted};
+ghost use Rattle.rules.specs.Requests.{Requests, asking, begun, requested, Granted};
 ghost use Rattle.dutyfile.specs.File.{parse, instance};
 ghost use Rattle.answer.specs.Answer.{searchOutcome, seen};
 ghost use Rattle.search.specs.Searching.{callFault};
-ghost use Rattle.search.specs.Requests.{requestFault, callFaultWith, searchingWith, planListWith, longestSearchingWith};
-ghost use Rattle.search.specs.Requests.{longestListWith};
+ghost use Rattle.search.specs.Requests.{isPair, arePairs, pairFault, requestFault, callFaultWith, searchingWith, planListWith};
+ghost use Rattle.search.specs.Requests.{longestSearchingWith, longestListWith};
 ghost use Rattle.search.specs.Goals.{searchingFor, listFor, DemandFor};
 
-// 14 for the agreed columns, then 15 for the absent ones.
-fn check_requests(found: Shape, agreed: &[u16], absent: &[u16]) -> Check
-    ensures { λ r. ⌜ faultOf r ≡ requestFault found (asking (now (agreed .entry)) (now (absent .entry))) ⌝ }
+// Whether two numbers are those of two columns of n.
+fn is_pair(n: usize, a: usize, b: usize) -> bool
+    ensures { λ r. ⌜ r ≡ isPair n a b ⌝ }
+{
+    if a < 1 {
+        return false;
+    }
+    if a > n {
+        return false;
+    }
+    if b < 1 {
+        return false;
+    }
+    if b > n {
+        return false;
+    }
+    a != b
+}
+
+// Whether each pair of a list names two columns of n.
+fn are_pairs(n: usize, pairs: &[u16]) -> bool
+    ensures { λ r. ⌜ r ≡ arePairs n (now (pairs .entry)) ⌝ }
+{
+    let mut k = 0;
+    while k + 1 < pairs.len() {
+        let a = pairs[k] as usize;
+        let b = pairs[k + 1] as usize;
+        k += 2;
+        if !is_pair(n, a, b) {
+            return false;
+        }
+    }
+    true
+}
+
+// 21 for the length of a list of pairs, then 20 for the pairs.
+fn check_pairs(n: usize, pairs: &[u16]) -> Check
+    ensures { λ r. ⌜ faultOf r ≡ pairFault n (now (pairs .entry)) ⌝ }
+{
+    if pairs.len() % 2 != 0 {
+        return Check::Failed(Refusal::PairCount);
+    }
+    if pairs.len() > 256 {
+        return Check::Failed(Refusal::PairCount);
+    }
+    if !are_pairs(n, pairs) {
+        return Check::Failed(Refusal::Pair);
+    }
+    Check::Passed
+}
+
+// 14 for the agreed columns, then 15 for the absent ones, then 21 and 20 for the pairs.
+fn check_requests(found: Shape, agreed: &[u16], absent: &[u16], pairs: &[u16]) -> Check
+    ensures { λ r. ⌜ faultOf r ≡ requestFault found (asking (now (agreed .entry)) (now (absent .entry)) (now (pairs .entry))) ⌝ }
 {
     if !columns_rise(agreed, found.columns) {
         return Check::Failed(Refusal::Agreed);
@@ -34,7 +85,7 @@ fn check_requests(found: Shape, agreed: &[u16], absent: &[u16]) -> Check
     if !columns_rise(absent, found.columns) {
         return Check::Failed(Refusal::Absent);
     }
-    Check::Passed
+    check_pairs(found.columns, pairs)
 }
 
 // 10 for a list of so many places, then 11.
@@ -53,14 +104,21 @@ pub fn check_call(found: Shape, places: usize, limit: u32) -> Check
     Check::Passed
 }
 
-// 10, then 11, then 14 and 15.
-fn check_call_with(found: Shape, places: usize, limit: u32, agreed: &[u16], absent: &[u16]) -> Check
-    ensures { λ r. ⌜ faultOf r ≡ callFaultWith found places limit (asking (now (agreed .entry)) (now (absent .entry))) ⌝ }
+// 10, then 11, then those of the lists of columns.
+fn check_call_with(
+    found: Shape,
+    places: usize,
+    limit: u32,
+    agreed: &[u16],
+    absent: &[u16],
+    pairs: &[u16],
+) -> Check
+    ensures { λ r. ⌜ faultOf r ≡ callFaultWith found places limit (asking (now (agreed .entry)) (now (absent .entry)) (now (pairs .entry))) ⌝ }
 {
     let first = check_call(found, places, limit);
     match first {
         Check::Failed(why) => Check::Failed(why),
-        Check::Passed => check_requests(found, agreed, absent),
+        Check::Passed => check_requests(found, agreed, absent, pairs),
     }
 }
 
@@ -71,11 +129,12 @@ fn search_for(
     limit: u32,
     agreed: &[u16],
     absent: &[u16],
+    pairs: &[u16],
     plan: &mut [u16],
 ) -> SearchAnswer
-    ensures { λ r. ⌜ searchOutcome r ≡ searchingFor goal (now (file .entry)) limit (asking (now (agreed .entry)) (now (absent .entry))) (length (now (plan .entry))) ⌝ }
-    ensures { λ r. ⌜ now (plan .exit) ≡ filled (searchOutcome r) (listFor goal (now (file .entry)) limit (asking (now (agreed .entry)) (now (absent .entry)))) (now (plan .entry)) ⌝ }
-    ensures { λ r. ⌜ ((x : Answer) → seen r (now (plan .exit)) ≡ accepted x → DemandFor goal (now (file .entry)) limit (asking (now (agreed .entry)) (now (absent .entry))) x) ⌝ }
+    ensures { λ r. ⌜ searchOutcome r ≡ searchingFor goal (now (file .entry)) limit (asking (now (agreed .entry)) (now (absent .entry)) (now (pairs .entry))) (length (now (plan .entry))) ⌝ }
+    ensures { λ r. ⌜ now (plan .exit) ≡ filled (searchOutcome r) (listFor goal (now (file .entry)) limit (asking (now (agreed .entry)) (now (absent .entry)) (now (pairs .entry)))) (now (plan .entry)) ⌝ }
+    ensures { λ r. ⌜ ((x : Answer) → seen r (now (plan .exit)) ≡ accepted x → DemandFor goal (now (file .entry)) limit (asking (now (agreed .entry)) (now (absent .entry)) (now (pairs .entry))) x) ⌝ }
 {
     let mut matrix = matrix::no_cells();
     let mut costs = lists::no_costs();
@@ -83,13 +142,13 @@ fn search_for(
     match found {
         ReadAnswer::Refused(why) => SearchAnswer::Refused(why),
         ReadAnswer::Accepted(shape) => {
-            let test = check_call_with(shape, plan.len(), limit, agreed, absent);
+            let test = check_call_with(shape, plan.len(), limit, agreed, absent, pairs);
             match test {
                 Check::Failed(why) => SearchAnswer::Refused(why),
                 Check::Passed => {
                     let root = root::root_node(&matrix, costs);
                     let start = requests::begin(goal, root, agreed, absent, &matrix);
-                    let done = solver::search_from(goal, start, &matrix, limit);
+                    let done = solver::search_from(goal, start, &matrix, pairs, limit);
                     answer::give(done, shape.columns, plan)
                 }
             }
@@ -97,20 +156,22 @@ fn search_for(
     }
 }
 
-// Searches a duty file within a node limit (01: allowance) for the cheapest plan that holds every agreed column and no absent one: the
-// answer, with the plan that it shows at the front of the list; with no plan, or refused, the list is as it was.
+// Searches a duty file within a node limit (01: allowance) for the cheapest plan that holds every agreed column and no absent one and has the
+// first column of a pair only with the second: the answer, with the plan that it shows at the front of the list; with no plan, or refused, the
+// list is as it was.
 pub fn search(
     file: &[u8],
     limit: u32,
     agreed: &[u16],
     absent: &[u16],
+    pairs: &[u16],
     plan: &mut [u16],
 ) -> SearchAnswer
-    ensures { λ r. ⌜ searchOutcome r ≡ searchingWith (now (file .entry)) limit (asking (now (agreed .entry)) (now (absent .entry))) (length (now (plan .entry))) ⌝ }
-    ensures { λ r. ⌜ now (plan .exit) ≡ filled (searchOutcome r) (planListWith (now (file .entry)) limit (asking (now (agreed .entry)) (now (absent .entry)))) (now (plan .entry)) ⌝ }
-    ensures { λ r. ⌜ (let p : Instance = instance (parse (now (file .entry))) in let m : Matrix = p .matrix in let q : Requests = asking (now (agreed .entry)) (now (absent .entry)) in (x : Answer) → seen r (now (plan .exit)) ≡ accepted x → Demand3 m (sum m) (begun (sum m) m q (root m (p .costs))) (Granted m q) (price m (p .costs)) limit x) ⌝ }
+    ensures { λ r. ⌜ searchOutcome r ≡ searchingWith (now (file .entry)) limit (asking (now (agreed .entry)) (now (absent .entry)) (now (pairs .entry))) (length (now (plan .entry))) ⌝ }
+    ensures { λ r. ⌜ now (plan .exit) ≡ filled (searchOutcome r) (planListWith (now (file .entry)) limit (asking (now (agreed .entry)) (now (absent .entry)) (now (pairs .entry)))) (now (plan .entry)) ⌝ }
+    ensures { λ r. ⌜ (let p : Instance = instance (parse (now (file .entry))) in let m : Matrix = p .matrix in let q : Requests = asking (now (agreed .entry)) (now (absent .entry)) (now (pairs .entry)) in (x : Answer) → seen r (now (plan .exit)) ≡ accepted x → Demand3 m (requested m q (sum m)) (begun (sum m) m q (root m (p .costs))) (Granted m q) (price m (p .costs)) limit x) ⌝ }
 {
-    search_for(Goal::Sum, file, limit, agreed, absent, plan)
+    search_for(Goal::Sum, file, limit, agreed, absent, pairs, plan)
 }
 
 // Searches a duty file within a node limit for a plan whose dearest duty costs least (02, P1), with lists as for `search`: the answer, whose
@@ -121,11 +182,12 @@ pub fn longest(
     limit: u32,
     agreed: &[u16],
     absent: &[u16],
+    pairs: &[u16],
     plan: &mut [u16],
 ) -> SearchAnswer
-    ensures { λ r. ⌜ searchOutcome r ≡ longestSearchingWith (now (file .entry)) limit (asking (now (agreed .entry)) (now (absent .entry))) (length (now (plan .entry))) ⌝ }
-    ensures { λ r. ⌜ now (plan .exit) ≡ filled (searchOutcome r) (longestListWith (now (file .entry)) limit (asking (now (agreed .entry)) (now (absent .entry)))) (now (plan .entry)) ⌝ }
-    ensures { λ r. ⌜ (let p : Instance = instance (parse (now (file .entry))) in let m : Matrix = p .matrix in let q : Requests = asking (now (agreed .entry)) (now (absent .entry)) in (x : Answer) → seen r (now (plan .exit)) ≡ accepted x → Demand3 m (longest m) (begun (longest m) m q (root m (p .costs))) (Granted m q) (dearest m (p .costs)) limit x) ⌝ }
+    ensures { λ r. ⌜ searchOutcome r ≡ longestSearchingWith (now (file .entry)) limit (asking (now (agreed .entry)) (now (absent .entry)) (now (pairs .entry))) (length (now (plan .entry))) ⌝ }
+    ensures { λ r. ⌜ now (plan .exit) ≡ filled (searchOutcome r) (longestListWith (now (file .entry)) limit (asking (now (agreed .entry)) (now (absent .entry)) (now (pairs .entry)))) (now (plan .entry)) ⌝ }
+    ensures { λ r. ⌜ (let p : Instance = instance (parse (now (file .entry))) in let m : Matrix = p .matrix in let q : Requests = asking (now (agreed .entry)) (now (absent .entry)) (now (pairs .entry)) in (x : Answer) → seen r (now (plan .exit)) ≡ accepted x → Demand3 m (requested m q (longest m)) (begun (longest m) m q (root m (p .costs))) (Granted m q) (dearest m (p .costs)) limit x) ⌝ }
 {
-    search_for(Goal::Longest, file, limit, agreed, absent, plan)
+    search_for(Goal::Longest, file, limit, agreed, absent, pairs, plan)
 }

@@ -5,13 +5,13 @@ use Rattle.node.specs.declared.Node.{Node}
 use Rattle.rules.specs.declared.Goal.{Goal}
 use Rattle.rules.specs.Search.{Answer}
 use Rattle.rules.specs.Limited.{answerFrom}
-use Rattle.rules.proofs.Goals.{WorkableFor}
+use Rattle.rules.proofs.Sides.{WorkableWith}
 use Rattle.tally.specs.Tally.{shown}
 use Rattle.solver.specs.declared.Solved.{Solved}
 
 -- a workable first node, and a node limit in range
-pub record Searchable (g : Goal) (l : List ℕ) (s : Node) (limit : ℕ) : Type 0 where
-  pub some : WorkableFor g l s
+pub record Searchable (g : Goal) (side l : List ℕ) (s : Node) (limit : ℕ) : Type 0 where
+  pub some : WorkableWith g side l s
   pub one : 1 ≤ limit
   pub limited : limit ≤ 1000000
 

@@ -17,7 +17,7 @@ ghost use Rattle.node.specs.Node.{root};
 ghost use Rattle.rules.specs.Tree.{sum};
 ghost use Rattle.rules.specs.Demand.{Demand3};
 ghost use Rattle.rules.specs.Longest.{dearest, longest};
-ghost use Rattle.rules.specs.Requests.{Requests, asking, begun, Granted};
+ghost use Rattle.rules.specs.Requests.{Requests, asking, begun, requested, Granted};
 ghost use Rattle.dutyfile.specs.File.{parse, lists, render, instance};
 ghost use Rattle.dutyfile.specs.Faults.{fileFault, reading, writing};
 ghost use Rattle.verify.specs.Verdict.{checking};
@@ -90,21 +90,23 @@ pub extern "C" fn spp_core_reduce(file: &[u8], reduced: &mut [u32], order: &mut 
     flat::flat_reduced(answer)
 }
 
-// Searches a duty file for its cheapest plan that holds every agreed column and no absent one, within a node limit: best, none or
-// stopped, with the columns of the plan shown at the front of the list; or a refusal, with the list as it was.
+// Searches a duty file for its cheapest plan that holds every agreed column and no absent one and has the first column of a pair only with the
+// second, within a node limit: best, none or stopped, with the columns of the plan shown at the front of the list; or a refusal, with the list
+// as it was.
 #[no_mangle]
 pub extern "C" fn spp_core_search(
     file: &[u8],
     node_limit: u32,
     agreed: &[u16],
     absent: &[u16],
+    pairs: &[u16],
     plan: &mut [u16],
 ) -> SppAnswer
-    ensures { λ r. ⌜ r ≡ answerOf (searchingWith (now (file .entry)) «node_limit» (asking (now (agreed .entry)) (now (absent .entry))) (length (now (plan .entry)))) ⌝ }
-    ensures { λ _. ⌜ now (plan .exit) ≡ filled (searchingWith (now (file .entry)) «node_limit» (asking (now (agreed .entry)) (now (absent .entry))) (length (now (plan .entry)))) (planListWith (now (file .entry)) «node_limit» (asking (now (agreed .entry)) (now (absent .entry)))) (now (plan .entry)) ⌝ }
-    ensures { λ r. ⌜ (let p : Instance = instance (parse (now (file .entry))) in let m : Matrix = p .matrix in let q : Requests = asking (now (agreed .entry)) (now (absent .entry)) in r .refusal ≡ 0 → Demand3 m (sum m) (begun (sum m) m q (root m (p .costs))) (Granted m q) (price m (p .costs)) «node_limit» (seenIn r (now (plan .exit)))) ⌝ }
+    ensures { λ r. ⌜ r ≡ answerOf (searchingWith (now (file .entry)) «node_limit» (asking (now (agreed .entry)) (now (absent .entry)) (now (pairs .entry))) (length (now (plan .entry)))) ⌝ }
+    ensures { λ _. ⌜ now (plan .exit) ≡ filled (searchingWith (now (file .entry)) «node_limit» (asking (now (agreed .entry)) (now (absent .entry)) (now (pairs .entry))) (length (now (plan .entry)))) (planListWith (now (file .entry)) «node_limit» (asking (now (agreed .entry)) (now (absent .entry)) (now (pairs .entry)))) (now (plan .entry)) ⌝ }
+    ensures { λ r. ⌜ (let p : Instance = instance (parse (now (file .entry))) in let m : Matrix = p .matrix in let q : Requests = asking (now (agreed .entry)) (now (absent .entry)) (now (pairs .entry)) in r .refusal ≡ 0 → Demand3 m (requested m q (sum m)) (begun (sum m) m q (root m (p .costs))) (Granted m q) (price m (p .costs)) «node_limit» (seenIn r (now (plan .exit)))) ⌝ }
 {
-    let answer = search::search(file, node_limit, agreed, absent, plan);
+    let answer = search::search(file, node_limit, agreed, absent, pairs, plan);
     flat::flat_answer(answer)
 }
 
@@ -117,13 +119,14 @@ pub extern "C" fn spp_core_longest(
     node_limit: u32,
     agreed: &[u16],
     absent: &[u16],
+    pairs: &[u16],
     plan: &mut [u16],
 ) -> SppAnswer
-    ensures { λ r. ⌜ r ≡ answerOf (longestSearchingWith (now (file .entry)) «node_limit» (asking (now (agreed .entry)) (now (absent .entry))) (length (now (plan .entry)))) ⌝ }
-    ensures { λ _. ⌜ now (plan .exit) ≡ filled (longestSearchingWith (now (file .entry)) «node_limit» (asking (now (agreed .entry)) (now (absent .entry))) (length (now (plan .entry)))) (longestListWith (now (file .entry)) «node_limit» (asking (now (agreed .entry)) (now (absent .entry)))) (now (plan .entry)) ⌝ }
-    ensures { λ r. ⌜ (let p : Instance = instance (parse (now (file .entry))) in let m : Matrix = p .matrix in let q : Requests = asking (now (agreed .entry)) (now (absent .entry)) in r .refusal ≡ 0 → Demand3 m (longest m) (begun (longest m) m q (root m (p .costs))) (Granted m q) (dearest m (p .costs)) «node_limit» (seenIn r (now (plan .exit)))) ⌝ }
+    ensures { λ r. ⌜ r ≡ answerOf (longestSearchingWith (now (file .entry)) «node_limit» (asking (now (agreed .entry)) (now (absent .entry)) (now (pairs .entry))) (length (now (plan .entry)))) ⌝ }
+    ensures { λ _. ⌜ now (plan .exit) ≡ filled (longestSearchingWith (now (file .entry)) «node_limit» (asking (now (agreed .entry)) (now (absent .entry)) (now (pairs .entry))) (length (now (plan .entry)))) (longestListWith (now (file .entry)) «node_limit» (asking (now (agreed .entry)) (now (absent .entry)) (now (pairs .entry)))) (now (plan .entry)) ⌝ }
+    ensures { λ r. ⌜ (let p : Instance = instance (parse (now (file .entry))) in let m : Matrix = p .matrix in let q : Requests = asking (now (agreed .entry)) (now (absent .entry)) (now (pairs .entry)) in r .refusal ≡ 0 → Demand3 m (requested m q (longest m)) (begun (longest m) m q (root m (p .costs))) (Granted m q) (dearest m (p .costs)) «node_limit» (seenIn r (now (plan .exit)))) ⌝ }
 {
-    let answer = search::longest(file, node_limit, agreed, absent, plan);
+    let answer = search::longest(file, node_limit, agreed, absent, pairs, plan);
     flat::flat_answer(answer)
 }
 

@@ -1,4 +1,5 @@
 pub mod Settles
 pub mod Choosing
 mod Tables
-pub mod Walking
+pub mod Sides
+mod Walking

@@ -8,7 +8,7 @@ use native.Mathlib.Omega.{arith}
 use lib.Dec.{leb}
 use borrow.Author.Tests.{eq-eqb, ne-eqb}
 use Rattle.node.specs.declared.Node.{Node}
-use Rattle.node.specs.Matrix.{Matrix, width, IsPlan}
+use Rattle.node.specs.Matrix.{Matrix, width}
 use Rattle.node.specs.Node.{taken, take, leave}
 use Rattle.node.specs.Stored.{matrixIn, FitsNode}
 use Rattle.rules.specs.Search.{Incumbent, reaches, Visit, ended, full, split}
@@ -16,12 +16,13 @@ use Rattle.rules.specs.Limited as rules
 use Rattle.rules.specs.Limited.{entered, halted, offered, onward, proceed, admit, limited}
 use Rattle.rules.specs.declared.Goal.{Goal}
 use Rattle.rules.specs.Tree.{Variant, visit}
-use Rattle.rules.specs.Goals.{searchFor}
+use Rattle.rules.specs.Goals.{searchFor, searchWith}
 use Rattle.rules.proofs.Plans.{Free}
 use Rattle.rules.proofs.Rows.{size}
 use Rattle.rules.proofs.Steps.{take-less, leave-less}
 use Rattle.rules.proofs.Variants.{Stepping}
-use Rattle.rules.proofs.Goals.{WorkableFor, goal-steps}
+use Rattle.rules.proofs.Goals.{WorkableFor}
+use Rattle.rules.proofs.Sides.{Allowed, side-steps}
 use Rattle.goals.specs.Taking.{Takes}
 use Rattle.tally.specs.declared.Tally.{Tally}
 use Rattle.visit.specs.declared.Settled.{Settled}
@@ -33,6 +34,7 @@ use Rattle.tree.specs.declared.Choice.{Choice}
 use Rattle.tree.specs.Walks.{Walks, Branching, branches, choiceOf}
 use Rattle.tree.proofs.Settles.{Settles, settles}
 use Rattle.tree.proofs.Choosing.{chosen-free, chosen-splits}
+use Rattle.tree.proofs.Sides.{splits-same, branches-same}
 
 -- what follows the first branch: nothing where the walk is stopped or the second one's bound is reached
 module _ (r : Bool) (T : rules.Tally) (w : rules.Tally → rules.Tally) where
@@ -124,27 +126,31 @@ module _ (o : Variant) (p : Matrix) (s : Node) (t : Tally) where
         node-branches h r e (suc f) l = e f (omega (arith, c .less)) ∙ step f (branches o p (x .node)) (rw h at visits)
 
 -- a workable node, settled
-module _ (g : Goal) (l : List ℕ) (s : Node) (t : Tally) (w : Walks g l s t) (x : Settled)
-    (told : x ≡ settled (searchFor g (matrixIn l)) (matrixIn l) s) where
-  pub comes : Settles (searchFor g (matrixIn l)) (matrixIn l) s x
+module _ (g : Goal) (side l : List ℕ) (s : Node) (t : Tally) (w : Walks g side l s t) (x : Settled)
+    (told : x ≡ settled (searchWith g side (matrixIn l)) (matrixIn l) s) where
+  pub comes : Settles (searchWith g side (matrixIn l)) (matrixIn l) s x
   comes =
       let p : Matrix = matrixIn l in
-      rw told (settles (searchFor g p) p (IsPlan p) (WorkableFor g l) (goal-steps g l (w .some .kept)) s (w .some))
+      rw told (settles (searchWith g side p) p (Allowed side p) (WorkableFor g l) (side-steps g side l (w .some .some .kept) (w .some .fits)) s (w .some .some))
 
-  pub can-branch : (u : Tally) → u .nodes + u .left ≡ t .nodes + t .left → x .alive ≡ true → x .full ≡ false → Branching g l (x .node) u
+  pub can-branch : (u : Tally) → u .nodes + u .left ≡ t .nodes + t .left → x .alive ≡ true → x .full ≡ false → Branching g side l (x .node) u
   can-branch u e alive part = record {
-    node = record { some = settled-workable g l s (w .some) x told; splits = comes .splits alive part };
+    node = record {
+      some = settled-workable g side l s (w .some) x told;
+      splits = splits-same g side (matrixIn l) (x .node) (comes .splits alive part);
+    };
+    fits = w .some .fits;
     count = omega (arith, e, w .count);
   }
 
 -- the branches of s on a column
-module _ (g : Goal) (l : List ℕ) (s : Node) (t : Tally) (w : Branching g l s t) (c : Choice)
+module _ (g : Goal) (side l : List ℕ) (s : Node) (t : Tally) (w : Branching g side l s t) (c : Choice)
     (told : c ≡ choiceOf (searchFor g (matrixIn l)) (matrixIn l) s) where
   abbrev p : Matrix
   p = matrixIn l
 
   abbrev o : Variant
-  o = searchFor g p
+  o = searchWith g side p
 
   abbrev j : ℕ
   j = c .column
@@ -152,14 +158,14 @@ module _ (g : Goal) (l : List ℕ) (s : Node) (t : Tally) (w : Branching g l s t
   F : FitsNode p
   F = w .node .some .kept .small .fits
 
-  S : Stepping p o (IsPlan p) (WorkableFor g l)
-  S = goal-steps g l (w .node .some .kept)
+  S : Stepping p o (Allowed side p) (WorkableFor g l)
+  S = side-steps g side l (w .node .some .kept) (w .fits)
 
   free : Free p s j
-  free = rw told (chosen-free o p s (w .node .splits))
+  free = rw told (chosen-free (searchFor g p) p s (w .node .splits))
 
   parts : branches o p s ≡ split (take p s j (o .join s j)) (leave s j) (c .bound)
-  parts = rw told (chosen-splits o p s (w .node .splits))
+  parts = branches-same g side p s ∙ rw told (chosen-splits (searchFor g p) p s (w .node .splits))
 
   pub column-low : c .column < 256
   column-low = omega (arith, free .col, F .wide)
@@ -172,10 +178,10 @@ module _ (g : Goal) (l : List ℕ) (s : Node) (t : Tally) (w : Branching g l s t
     pub first-falls : size (matrixIn l) a < size (matrixIn l) s
     first-falls = rw with (take-less p F s j free (o .join s j))
 
-    pub first-walks : Walks g l a t
-    first-walks = record { some = rw with (S .taking s j free (w .node .some)); count = w .count }
+    pub first-walks : Walks g side l a t
+    first-walks = record { some = record { some = rw with (S .taking s j free (w .node .some)); fits = w .fits }; count = w .count }
 
-    module _ (u : Tally) (walked : NodeTo (searchFor g (matrixIn l)) (matrixIn l) a t u) where
+    module _ (u : Tally) (walked : NodeTo (searchWith g side (matrixIn l)) (matrixIn l) a t u) where
       -- after the first branch
       onwards : (f : ℕ) → size p s ≤ f →
           onward (u .stopped) (reaches (c .bound) (keptIn (width p) u)) (shown (width p) u) (limited (visit o p) f (leave s j))
@@ -186,18 +192,18 @@ module _ (g : Goal) (l : List ℕ) (s : Node) (t : Tally) (w : Branching g l s t
           rw with at (walked f (omega (arith, first-falls))) in
           rw (parts, ← e)
 
-      pub branch-stops : u .stopped ≡ true → BranchTo (searchFor g (matrixIn l)) (matrixIn l) s t u
+      pub branch-stops : u .stopped ≡ true → BranchTo (searchWith g side (matrixIn l)) (matrixIn l) s t u
       branch-stops h f q = onward-stops _ _ _ (u .stopped) h ∙ onwards f q
 
       module _ (on : u .stopped ≡ false) (y : Bool) (is : y ≡ (u .kept && leb (u .cost) (c .bound))) where
         meets : y ≡ reaches (c .bound) (keptIn (width p) u)
         meets = is ∙ reached (u .cost) (c .bound) (takenIn (width p) (u .plan)) (u .kept)
 
-        pub branch-reached : y ≡ true → BranchTo (searchFor g (matrixIn l)) (matrixIn l) s t u
+        pub branch-reached : y ≡ true → BranchTo (searchWith g side (matrixIn l)) (matrixIn l) s t u
         branch-reached h f q = onward-reached _ _ _ (u .stopped) on (sym meets ∙ h) ∙ onwards f q
 
-        pub branch-goes : y ≡ false → (z : Node) → z ≡ leave s (c .column) → (r : Tally) → NodeTo (searchFor g (matrixIn l)) (matrixIn l) z u r →
-            BranchTo (searchFor g (matrixIn l)) (matrixIn l) s t r
+        pub branch-goes : y ≡ false → (z : Node) → z ≡ leave s (c .column) → (r : Tally) → NodeTo (searchWith g side (matrixIn l)) (matrixIn l) z u r →
+            BranchTo (searchWith g side (matrixIn l)) (matrixIn l) s t r
         branch-goes h z e r v f q =
             (rw e at (v f (rw e (omega (arith, leave-less p F s j free)))))
             ∙ onward-goes _ _ _ (u .stopped) on (sym meets ∙ h) ∙ onwards f q
@@ -206,5 +212,5 @@ module _ (g : Goal) (l : List ℕ) (s : Node) (t : Tally) (w : Branching g l s t
     pub second-falls : size (matrixIn l) z < size (matrixIn l) s
     second-falls = rw e (leave-less p F s j free)
 
-    pub second-walks : (u : Tally) → u .nodes + u .left ≡ t .nodes + t .left → Walks g l z u
-    second-walks u q = record { some = rw e (S .leaving s j free (w .node .some)); count = omega (arith, w .count) }
+    pub second-walks : (u : Tally) → u .nodes + u .left ≡ t .nodes + t .left → Walks g side l z u
+    second-walks u q = record { some = record { some = rw e (S .leaving s j free (w .node .some)); fits = w .fits }; count = omega (arith, w .count) }

@@ -16,12 +16,13 @@ use Rattle.rules.proofs.Plans.{Free}
 use Rattle.rules.proofs.Forcing.{TwoFree}
 use Rattle.rules.proofs.Variants.{ZeroIn}
 use Rattle.rules.proofs.Goals.{WorkableFor}
+use Rattle.rules.proofs.Sides.{SideFits, WorkableWith}
 use Rattle.tally.specs.declared.Tally.{Tally}
 use Rattle.tree.specs.declared.Choice.{Choice}
 
 -- a workable node, and no more nodes than the largest node limit
-pub record Walks (g : Goal) (l : List ℕ) (s : Node) (t : Tally) : Type 0 where
-  pub some : WorkableFor g l s
+pub record Walks (g : Goal) (side l : List ℕ) (s : Node) (t : Tally) : Type 0 where
+  pub some : WorkableWith g side l s
   pub count : t .nodes + t .left ≤ 1000000
 
 -- a node that is settled and neither dead nor a plan: i ∷ is are its open rows
@@ -36,8 +37,9 @@ pub record Branches (g : Goal) (l : List ℕ) (s : Node) : Type 0 where
   pub some : WorkableFor g l s
   pub splits : Splits (searchFor g (matrixIn l)) (matrixIn l) s
 
-pub record Branching (g : Goal) (l : List ℕ) (s : Node) (t : Tally) : Type 0 where
+pub record Branching (g : Goal) (side l : List ℕ) (s : Node) (t : Tally) : Type 0 where
   pub node : Branches g l s
+  pub fits : SideFits l side
   pub count : t .nodes + t .left ≤ 1000000
 
 -- the branches on a row, of the open ones

@@ -20,32 +20,32 @@ ghost use Rattle.node.specs.View.{nodeOf};
 ghost use Rattle.node.specs.Stored.{matrixIn};
 ghost use Rattle.rules.specs.Limited.{proceed, limited};
 ghost use Rattle.rules.specs.Tree.{sum, visit};
-ghost use Rattle.rules.specs.Goals.{searchFor};
-ghost use Rattle.rules.proofs.Goals.{WorkableFor};
+ghost use Rattle.rules.specs.Goals.{searchFor, searchWith};
 ghost use Rattle.rules.proofs.Rows.{size};
+ghost use Rattle.rules.proofs.Sides.{WorkableWith};
 ghost use Rattle.tally.specs.Tally.{shown};
 ghost use Rattle.visit.specs.Settled.{settled};
 ghost use Rattle.tree.specs.Walks.{Walks, Branching, branches, choiceOf, Choosable, Chooses};
 
 // Settles a node. A function of its own, so that the copy of the node that is handed on takes no room while the branches are walked.
-fn settle_node(goal: Goal, s: Node, matrix: &[u16]) -> Settled
-    requires { ⌜ WorkableFor goal (now matrix) s ⌝ }
-    ensures { λ r. ⌜ r ≡ settled (searchFor goal (matrixIn (now (matrix .entry)))) (matrixIn (now (matrix .entry))) s ⌝ }
+fn settle_node(goal: Goal, s: Node, matrix: &[u16], side: &[u16]) -> Settled
+    requires { ⌜ WorkableWith goal (now side) (now matrix) s ⌝ }
+    ensures { λ r. ⌜ r ≡ settled (searchWith goal (now (side .entry)) (matrixIn (now (matrix .entry)))) (matrixIn (now (matrix .entry))) s ⌝ }
 {
-    settle(goal, s, matrix)
+    settle(goal, s, matrix, side)
 }
 
 // A node with all below it, entered if one is left of the node limit.
-pub fn node(goal: Goal, s: Node, t: Tally, matrix: &[u16]) -> Tally
-    requires { ⌜ Walks goal (now matrix) s t ⌝ }
-    ensures tree { λ r. ⌜ (let p : Matrix = matrixIn (now (matrix .entry)) in (f : ℕ) → size p s < f → shown (width p) r ≡ limited (visit (searchFor goal p) p) f s (shown (width p) t)) ⌝ }
+pub fn node(goal: Goal, s: Node, t: Tally, matrix: &[u16], side: &[u16]) -> Tally
+    requires { ⌜ Walks goal (now side) (now matrix) s t ⌝ }
+    ensures tree { λ r. ⌜ (let p : Matrix = matrixIn (now (matrix .entry)) in (f : ℕ) → size p s < f → shown (width p) r ≡ limited (visit (searchWith goal (now (side .entry)) p) p) f s (shown (width p) t)) ⌝ }
     ensures sum { λ r. ⌜ r .nodes + r .left ≡ t .nodes + t .left ⌝ }
 {
     if t.left == 0 {
         return halt(t);
     }
     let u = enter(t);
-    let found = settle_node(goal, s, matrix);
+    let found = settle_node(goal, s, matrix, side);
     if !found.alive {
         return u;
     }
@@ -56,7 +56,7 @@ pub fn node(goal: Goal, s: Node, t: Tally, matrix: &[u16]) -> Tally
     if is_reached(n.bound, u.kept, u.cost) {
         return u;
     }
-    branch(goal, n, u, matrix)
+    branch(goal, n, u, matrix, side)
 }
 
 // What a node branches on.
@@ -109,16 +109,16 @@ fn choose_for<'a>(
 }
 
 // The branch that takes a column, with all below it, and then the one without it.
-fn branch(goal: Goal, s: Node, mut t: Tally, matrix: &[u16]) -> Tally
-    requires { ⌜ Branching goal (now matrix) s t ⌝ }
-    ensures tree { λ r. ⌜ (let p : Matrix = matrixIn (now (matrix .entry)) in (f : ℕ) → size p s ≤ f → shown (width p) r ≡ proceed (branches (searchFor goal p) p s) (shown (width p) t) (limited (visit (searchFor goal p) p) f)) ⌝ }
+fn branch(goal: Goal, s: Node, mut t: Tally, matrix: &[u16], side: &[u16]) -> Tally
+    requires { ⌜ Branching goal (now side) (now matrix) s t ⌝ }
+    ensures tree { λ r. ⌜ (let p : Matrix = matrixIn (now (matrix .entry)) in (f : ℕ) → size p s ≤ f → shown (width p) r ≡ proceed (branches (searchWith goal (now (side .entry)) p) p s) (shown (width p) t) (limited (visit (searchWith goal (now (side .entry)) p) p) f)) ⌝ }
     ensures sum { λ r. ⌜ r .nodes + r .left ≡ t .nodes + t .left ⌝ }
 {
     let chosen = choose_for(goal, &s.cost, &s.column, &s.row, s.bound, matrix);
     let j = chosen.column as usize;
     let bound = join(goal, s.bound, s.cost[j]);
     let mut child = s.take(j, bound, matrix);
-    let u = node(goal, child, t, matrix);
+    let u = node(goal, child, t, matrix, side);
     if u.stopped {
         return u;
     }
@@ -126,6 +126,6 @@ fn branch(goal: Goal, s: Node, mut t: Tally, matrix: &[u16]) -> Tally
         return u;
     }
     child = s.leave(j);
-    t = node(goal, child, u, matrix);
+    t = node(goal, child, u, matrix, side);
     t
 }

@@ -1,7 +1,7 @@
 -- The lists of a trial, made of those of a file, are read as the trial's file is, and the search of them is the search of that file.
 use mathlib.Core.Path.{_≡_, refl, ap, sym, _∙_}
 use mathlib.Core.Bool.{Bool, true, false}
-use mathlib.Core.List.{List, _++_}
+use mathlib.Core.List.{List, [], _++_}
 use Prim.Native.Nat.{ℕ, suc, _+_, _-_, _≤_, _<_}
 use native.Mathlib.Omega.{arith}
 use lib.Dec.{ltb}
@@ -17,7 +17,9 @@ use Rattle.node.proofs.Members.{length-from, at-table}
 use Rattle.node.proofs.Loops.{table-ext}
 use Rattle.rules.specs.declared.Goal.the-variants.{Sum}
 use Rattle.rules.specs.Tree.{live, answer}
-use Rattle.rules.specs.Goals.{searchFor}
+use Rattle.rules.specs.Goals.{searchFor, searchWith}
+use Rattle.rules.specs.Pairs.{pairsOf}
+use Rattle.rules.proofs.Pairs.{paired-none}
 use Rattle.rules.proofs.Goals.{goal-root}
 use Rattle.dutyfile.specs.declared.Shape.{Shape}
 use Rattle.dutyfile.specs.File.{Lists, columnsIn, parse, render, instance, shape, sum}
@@ -139,10 +141,16 @@ module _ (found : Shape) (costs lengths numbers : List ℕ) (limit : ℕ) (r : R
 
   -- its root, and its search
   module _ (l costs′ : List ℕ) (f : Loaded file (more found k) l costs′) (first : Node) (is : first ≡ root (matrixIn l) costs′) where
-    pub searchable : Searchable Sum l first limit
-    searchable = record { some = rw is (goal-root Sum l costs′ (f .workable)); one = r .one; limited = r .limited }
+    pub searchable : Searchable Sum [] l first limit
+    searchable = record {
+      some = record { some = rw is (goal-root Sum l costs′ (f .workable)); fits = λ i h. absurd (omega arith) };
+      one = r .one;
+      limited = r .limited;
+    }
 
-    pub searched : (done : Solved) → solvedAnswer (width (matrixIn l)) done ≡ answer (searchFor Sum (matrixIn l)) (matrixIn l) (live first) limit
+    pub searched : (done : Solved) → solvedAnswer (width (matrixIn l)) done ≡ answer (searchWith Sum [] (matrixIn l)) (matrixIn l) (live first) limit
         → solvedAnswer (found .columns + e) done ≡ trial d limit k
-    unfolding trial
-    searched done ends = rw (f .columns-is) at ends ∙ rw is (loaded-answer file (more found k) l costs′ f limit)
+    unfolding trial pairsOf
+    searched done ends =
+        let plain : searchWith Sum [] (matrixIn l) ≡ searchFor Sum (matrixIn l) = paired-none (matrixIn l) (searchFor Sum (matrixIn l)) in
+        rw (f .columns-is, plain) at ends ∙ rw is (loaded-answer file (more found k) l costs′ f limit)

@@ -62,5 +62,6 @@ pub fn search_trial(
         &mut matrix,
     );
     let first = root::root_node(&matrix, all_costs);
-    solver::search_live(Goal::Sum, first, &matrix, limit)
+    let none = [0u16; 0];
+    solver::search_live(Goal::Sum, first, &matrix, &none, limit)
 }

@@ -12,8 +12,10 @@ use Rattle.node.specs.Stored.{matrixIn}
 use Rattle.rules.specs.declared.Forced.{Forced}
 use Rattle.rules.specs.declared.Goal.{Goal}
 use Rattle.rules.specs.Tree.{Variant}
-use Rattle.rules.specs.Goals.{searchFor}
-use Rattle.rules.proofs.Goals.{WorkableFor, goal-steps}
+use Rattle.rules.specs.Goals.{searchWith}
+use Rattle.rules.proofs.Variants.{Stepping}
+use Rattle.rules.proofs.Goals.{WorkableFor}
+use Rattle.rules.proofs.Sides.{Allowed, WorkableWith, side-steps}
 use Rattle.visit.specs.declared.Settled.{Settled}
 use Rattle.visit.specs.Settled.{settledBy, settled}
 
@@ -49,14 +51,17 @@ module _ (o : Variant) (p : Matrix) (s : Node) (forced : Forced) (told : forced 
     settle-open h n d = rw d (open-some o (forced .node) (openRows p (forced .node)) (sym h ∙ full) ∙ by true e)
 
 -- a node forced or settled is workable where it was
-module _ (g : Goal) (l : List ℕ) (s : Node) (w : WorkableFor g l s) where
+module _ (g : Goal) (side l : List ℕ) (s : Node) (w : WorkableWith g side l s) where
   o : Variant
-  o = searchFor g (matrixIn l)
+  o = searchWith g side (matrixIn l)
 
-  pub forced-workable : (forced : Forced) → forced ≡ searchFor g (matrixIn l) .settle s → WorkableFor g l (forced .node)
-  forced-workable forced e = rw e (goal-steps g l (w .kept) .forcing s w .good)
+  S : Stepping (matrixIn l) (searchWith g side (matrixIn l)) (Allowed side (matrixIn l)) (WorkableFor g l)
+  S = side-steps g side l (w .some .kept) (w .fits)
 
-  pub settled-workable : (x : Settled) → x ≡ settled (searchFor g (matrixIn l)) (matrixIn l) s → WorkableFor g l (x .node)
+  pub forced-workable : (forced : Forced) → forced ≡ searchWith g side (matrixIn l) .settle s → WorkableFor g l (forced .node)
+  forced-workable forced e = rw e (S .forcing s (w .some) .good)
+
+  pub settled-workable : (x : Settled) → x ≡ settled (searchWith g side (matrixIn l)) (matrixIn l) s → WorkableFor g l (x .node)
   unfolding settled settledBy o
   settled-workable x e = rw e (go (o .settle s .alive) (openRows (matrixIn l) (o .settle s .node)))
     where
@@ -66,4 +71,4 @@ module _ (g : Goal) (l : List ℕ) (s : Node) (w : WorkableFor g l s) where
       go : (b : Bool) (is : List ℕ) → WorkableFor g l (settledBy o b (o .settle s .node) is .node)
       go false is = f
       go true [] = f
-      go true (i ∷ is) = goal-steps g l (w .kept) .reducing (o .settle s .node) f .good
+      go true (i ∷ is) = S .reducing (o .settle s .node) f .good

@@ -1,9 +1,9 @@
 // What a node comes to when it is forced and reduced.
-use forcing::force;
 use goals::raise;
 use lowering::reduce_node;
 use node::Node;
 use node::row_count;
+use pairs::force_with;
 use rules::Goal;
 ghost use mathlib.Core.Path.{_≡_};
 ghost use mathlib.Core.List.{[]};
@@ -11,8 +11,8 @@ ghost use Rattle.node.specs.Lists.{isEmpty};
 ghost use Rattle.node.specs.Node.{openRows};
 ghost use Rattle.node.specs.View.{view};
 ghost use Rattle.node.specs.Stored.{matrixIn, Kept};
-ghost use Rattle.rules.specs.Goals.{searchFor};
-ghost use Rattle.rules.proofs.Goals.{WorkableFor};
+ghost use Rattle.rules.specs.Goals.{searchWith};
+ghost use Rattle.rules.proofs.Sides.{WorkableWith};
 ghost use Rattle.visit.specs.Settled.{settled};
 
 // Whether no row is open.
@@ -40,12 +40,13 @@ pub struct Settled {
     pub full: bool,
 }
 
-// Forces a node, and reduces it where it is alive and has open rows: for the sum as 01 does, for the longest duty by raising its bound.
-pub fn settle(goal: Goal, s: Node, matrix: &[u16]) -> Settled
-    requires { ⌜ WorkableFor goal (now matrix) s ⌝ }
-    ensures { λ r. ⌜ r ≡ settled (searchFor goal (matrixIn (now (matrix .entry)))) (matrixIn (now (matrix .entry))) s ⌝ }
+// Forces a node with its side constraints, and reduces it where it is alive and has open rows: for the sum as 01 does, for the longest duty by
+// raising its bound.
+pub fn settle(goal: Goal, s: Node, matrix: &[u16], side: &[u16]) -> Settled
+    requires { ⌜ WorkableWith goal (now side) (now matrix) s ⌝ }
+    ensures { λ r. ⌜ r ≡ settled (searchWith goal (now (side .entry)) (matrixIn (now (matrix .entry)))) (matrixIn (now (matrix .entry))) s ⌝ }
 {
-    let forced = force(goal, s, matrix);
+    let forced = force_with(goal, s, matrix, side);
     let mut node = forced.node;
     if !forced.alive {
         return Settled {

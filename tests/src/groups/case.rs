@@ -24,9 +24,10 @@ impl Case<'_> {
         compare::search_with(report, self.goal, self.file, limit, self.requests, room)
     }
 
-    /// Starts or resumes the goal's group of searches without lists, or that of searches with lists.
-    pub fn group(&self, report: &mut Report, without: &'static str, with: &'static str) {
-        report.group_of(self.goal, if self.requests.is_none() { without } else { with });
+    /// Starts or resumes the goal's group of searches without lists, of those with agreed and absent columns, or of those with pairs.
+    pub fn group(&self, report: &mut Report, without: &'static str, with: &'static str, with_pairs: &'static str) {
+        let of_lists = if self.requests.pairs.is_empty() { with } else { with_pairs };
+        report.group_of(self.goal, if self.requests.is_none() { without } else { of_lists });
     }
 
     /// The case as text, for a printed difference.
@@ -35,7 +36,7 @@ impl Case<'_> {
     }
 
     /// A plan shown is one at the price given, by the engine's plan check, by (a)'s, and by the columns as they were made; and it holds
-    /// every agreed column and no absent one.
+    /// every agreed column and no absent one, and obeys the pairs.
     pub fn plan_shown(&self, report: &mut Report, answer: &Answer, plan: &[u16]) {
         let Case { goal, columns, file, requests } = *self;
         if answer.has_plan == 0 {
@@ -45,6 +46,7 @@ impl Case<'_> {
             report,
             "plans shown pass the plan check and have the price given",
             "lists: plans shown pass the plan check, have the price given, hold every agreed duty and no absent one",
+            "pairs: plans shown pass the plan check, have the price given and are as asked",
         );
         let checked = compare::check(report, file, plan);
         let (sum, wanted) = (price(columns, plan, Goal::Sum), price(columns, plan, goal));

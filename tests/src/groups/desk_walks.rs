@@ -81,7 +81,7 @@ fn some_plans(random: &mut Random, file: &File) -> Vec<BTreeSet<u16>> {
     let mut plans = Vec::new();
     for _ in 0..TRIES {
         let (agreed, mut plan) = ([random.within(1, file.count() as usize) as u16], [0; 64]);
-        let requests = Requests { agreed: &agreed, absent: &[] };
+        let requests = Requests { agreed: &agreed, ..Requests::NONE };
         let answer = plain::search_with(Goal::Sum, &file.bytes, LIMIT, requests, &mut plan);
         plans.extend((answer.has_plan != 0).then(|| plan[..answer.columns as usize].iter().copied().collect()));
     }

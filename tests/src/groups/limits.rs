@@ -10,9 +10,10 @@ use crate::report::Report;
 
 const GROUP: &str = "allowances from 1 to the tree's size, 0, 1,000,000 and 1,000,001";
 const GROUP_WITH_LISTS: &str = "lists: allowances from 1 to the tree's size, 0, 1,000,000 and 1,000,001";
+const GROUP_WITH_PAIRS: &str = "pairs: allowances from 1 to the tree's size, 0, 1,000,000 and 1,000,001";
 
 fn group(report: &mut Report, case: &Case) {
-    case.group(report, GROUP, GROUP_WITH_LISTS);
+    case.group(report, GROUP, GROUP_WITH_LISTS, GROUP_WITH_PAIRS);
 }
 
 /// All node limits of a tree whose answer is given, where it has at most `most` nodes; else some of them.

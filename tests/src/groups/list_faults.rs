@@ -16,7 +16,7 @@ const LIMIT: u32 = 20;
 
 const GROUP: &str = "lists: refusals 14 and 15, and those that come before them";
 
-fn some_files() -> Vec<Columns> {
+pub fn some_files() -> Vec<Columns> {
     let mut random = Random::new(14);
     let mut files = vec![columns(1, &[(&[1], 5)]), columns(2, &[(&[1], 3)]), files::example_1(), files::example_4()];
     files.extend((0..6).map(|_| generate::small(&mut random)));
@@ -40,7 +40,7 @@ pub fn run(report: &mut Report) {
 
 /// The search with these lists has the stated refusal, or none for 0.
 fn refuses(report: &mut Report, case: &Case, agreed: &[u16], absent: &[u16], wanted: u32) {
-    let case = Case { requests: Requests { agreed, absent }, ..*case };
+    let case = Case { requests: Requests { agreed, absent, pairs: &[] }, ..*case };
     let found = case.search(report, LIMIT, case.columns.rows as usize).0;
     report.same(&found.refusal, &wanted, || case.text());
 }
@@ -84,7 +84,7 @@ fn one_fault(report: &mut Report, case: &Case, list: &[u16], faulty: &[u16]) {
     refuses(report, case, &[], faulty, 15);
     refuses(report, case, list, faulty, 15);
     for (agreed, absent) in [(faulty, &[][..]), (&[][..], faulty), (faulty, faulty)] {
-        earlier_refusals(report, case, Requests { agreed, absent });
+        earlier_refusals(report, case, Requests { agreed, absent, pairs: &[] });
     }
 }
 

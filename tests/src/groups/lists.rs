@@ -56,9 +56,9 @@ struct Totals {
 }
 
 /// The plans of a file: some of them, or all.
-struct Plans {
-    plans: Vec<Vec<u16>>,
-    are_all: bool,
+pub struct Plans {
+    pub plans: Vec<Vec<u16>>,
+    pub are_all: bool,
 }
 
 /// A column list of each kind.
@@ -96,14 +96,14 @@ fn one_file(report: &mut Report, family: &Family, random: &mut Random, totals: &
     drawn.retain(|lists| !lists.agreed.is_empty() || !lists.absent.is_empty());
     for Lists { agreed, absent } in &drawn {
         for goal in Goal::BOTH {
-            let case = Case { goal, columns: &columns, file: &file, requests: Requests { agreed, absent } };
+            let case = Case { goal, columns: &columns, file: &file, requests: Requests { agreed, absent, pairs: &[] } };
             one_search(report, family, &case, &plans, totals);
         }
     }
 }
 
 /// Plans by enumeration; for a larger file the one that (a) finds, if it does.
-fn known_plans(columns: &Columns, file: &[u8], limit: u32) -> Plans {
+pub fn known_plans(columns: &Columns, file: &[u8], limit: u32) -> Plans {
     let mut plans = Vec::new();
     if columns.rows <= MOST_ROWS {
         let count = each_plan(columns, MOST_PLANS, |plan| {
@@ -120,7 +120,7 @@ fn known_plans(columns: &Columns, file: &[u8], limit: u32) -> Plans {
 }
 
 /// Some of the columns, each with the given chance.
-fn some(random: &mut Random, columns: impl Iterator<Item = u16>, percent: usize) -> Vec<u16> {
+pub fn some(random: &mut Random, columns: impl Iterator<Item = u16>, percent: usize) -> Vec<u16> {
     columns.filter(|_| random.chance(percent)).collect()
 }
 
@@ -197,7 +197,7 @@ fn one_search(report: &mut Report, family: &Family, case: &Case, plans: &Plans, 
 }
 
 /// The least price of those of all plans that the lists allow.
-fn least_of(plans: &Plans, case: &Case) -> Least {
+pub fn least_of(plans: &Plans, case: &Case) -> Least {
     let allowed = plans.plans.iter().filter(|plan| case.requests.are_met_by(plan));
     allowed.map(|plan| price(case.columns, plan, case.goal)).min().map_or(Least::NoPlan, Least::Price)
 }

@@ -92,8 +92,8 @@ fn table_place(report: &mut Report, file: &str, place: &Place) {
     }
     match &place.question {
         Question::Order => drop(compare::reduce(report, &bytes, [columns.costs.len(), rows])),
-        Question::Search { goal, limit, agreed, absent } => {
-            let requests = Requests { agreed, absent };
+        Question::Search { goal, limit, agreed, absent, pairs } => {
+            let requests = Requests { agreed, absent, pairs };
             let answer = compare::search_with(report, *goal, &bytes, *limit, requests, rows).0;
             let least = least_price_with(columns, *goal, requests, MOST_SETS);
             prices::compare(report, &answer, least, || format!("second solver, {name}, {requests:?}"));

@@ -21,7 +21,8 @@ fn two_each() -> Columns {
 
 /// A search of example 4.
 fn fourth(goal: Goal, agreed: Numbers, absent: Numbers, limit: u32, answer: Answer, plan: Numbers) -> Search {
-    Search { goal, name: "example 4", columns: files::example_4(), requests: Requests { agreed, absent }, limit, answer, plan }
+    let requests = Requests { agreed, absent, pairs: &[] };
+    Search { goal, name: "example 4", columns: files::example_4(), requests, limit, answer, plan }
 }
 
 /// What the lists leave of example 4, by the least sum.
@@ -80,7 +81,7 @@ fn fourth_dead(goal: Goal) -> Vec<Search> {
 
 fn small_files() -> Vec<Search> {
     let case = |goal, name, columns, agreed, absent, answer, plan| {
-        let requests = Requests { agreed, absent };
+        let requests = Requests { agreed, absent, pairs: &[] };
         Search { goal, name, columns, requests, limit: LIMIT, answer, plan }
     };
     vec![

@@ -1,4 +1,4 @@
-//! The rules of 01 and of 02, P1, P2, P5, P6 and P7 in plain code: the same calls as the static library, on slices, and for P7
+//! The rules of 01 and of 02, P1, P2 and P5 to P8 in plain code: the same calls as the static library, on slices, and for P7
 //! a desk of its own.
 
 mod assign;
@@ -7,6 +7,7 @@ mod file;
 mod goal;
 mod matrix;
 mod node;
+mod pairs;
 mod reduce;
 mod requests;
 mod search;
@@ -16,5 +17,6 @@ pub use assign::assign;
 pub use desk::{counted, Recount};
 pub use file::{check, read, write};
 pub use reduce::reduce;
-pub use search::{search, search_with, tree, Tree};
+pub use pairs::Uses;
+pub use search::{search, search_with, tree, tree_with, Tree};
 pub use uncrewed::{trial, uncrewed};

@@ -1,18 +1,22 @@
-//! The lists of 02, P2: their refusals, and what the root does with them.
+//! The lists of 02, P2 and P8: their refusals; and what the root does with those of P2.
 
 use super::file::{rising, Duties};
 use super::matrix::Matrix;
 use super::node::{Node, FREE, OUT};
+use super::pairs;
 use crate::goal::Goal;
 use crate::requests::Requests;
 
-/// The refusal of the lists, if there is one: 14 for the agreed one, then 15 for the absent one.
+/// The refusal of the lists, if there is one: 14 for the agreed one, 15 for the absent one, then those of the pairs.
 pub fn refusal(requests: Requests, duties: &Duties) -> Option<u32> {
     let is_faulty = |list: &[u16]| !rising(list.iter().map(|&column| column as usize), duties.columns());
     if is_faulty(requests.agreed) {
         return Some(14);
     }
-    is_faulty(requests.absent).then_some(15)
+    if is_faulty(requests.absent) {
+        return Some(15);
+    }
+    pairs::refusal(requests.pairs, duties.columns())
 }
 
 impl Node {

@@ -5,6 +5,7 @@ use std::cmp::Reverse;
 use super::file::{parse, Duties};
 use super::matrix::Matrix;
 use super::node::{Forced, Node, FREE, OUT};
+use super::pairs::Uses;
 use super::requests;
 use crate::answers::{Answer, BEST, NONE, STOPPED};
 use crate::goal::Goal;
@@ -94,6 +95,7 @@ struct Walk<'a> {
     kept: Option<(u64, Node)>,
     depth: u32,
     deepest: u32,
+    uses: Uses,
 }
 
 impl Walk<'_> {
@@ -120,7 +122,7 @@ impl Walk<'_> {
         if is_root && !node.grant(self.matrix, self.goal, self.requests) {
             return;
         }
-        let forced = node.force(self.matrix, self.goal);
+        let forced = node.settle(self.matrix, self.goal, self.requests.pairs, &mut self.uses);
         if forced == Forced::Open {
             self.goal.reduce(self.matrix, &mut node);
         }
@@ -174,21 +176,28 @@ pub struct Tree {
     pub plan: Vec<u16>,
     /// The number of nodes on the longest path entered, the root included.
     pub deepest: u32,
+    /// What the pairs did in it.
+    pub uses: Uses,
 }
 
 /// Walks the tree of the file's columns.
 pub(super) fn walk(duties: &Duties, goal: Goal, requests: Requests, limit: u32) -> Tree {
     let matrix = &Matrix::new(duties);
-    let (nodes, stopped, root_bound, kept, depth, deepest) = (0, false, 0, None, 0, 0);
-    let mut walk = Walk { matrix, goal, requests, limit, nodes, stopped, root_bound, kept, depth, deepest };
+    let (nodes, stopped, root_bound, kept, depth, deepest, uses) = (0, false, 0, None, 0, 0, Uses::default());
+    let mut walk = Walk { matrix, goal, requests, limit, nodes, stopped, root_bound, kept, depth, deepest, uses };
     walk.enter(Node::root(duties));
     let plan = walk.kept.as_ref().map_or(Vec::new(), |(_, node)| node.taken());
-    Tree { answer: walk.answer(), plan, deepest: walk.deepest }
+    Tree { answer: walk.answer(), plan, deepest: walk.deepest, uses: walk.uses }
 }
 
 /// Walks the tree of an accepted file with a node limit in range.
 pub fn tree(goal: Goal, file: &[u8], limit: u32) -> Result<Tree, u32> {
-    parse(file).map(|duties| walk(&duties, goal, Requests::NONE, limit))
+    tree_with(goal, file, limit, Requests::NONE)
+}
+
+/// The same with lists that are accepted.
+pub fn tree_with(goal: Goal, file: &[u8], limit: u32, requests: Requests) -> Result<Tree, u32> {
+    parse(file).map(|duties| walk(&duties, goal, requests, limit))
 }
 
 /// The search without lists.

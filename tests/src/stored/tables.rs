@@ -1,7 +1,8 @@
 //! The tables of the rules, which are proved there by computing. A table is read as `NAME : QUESTIONS ≡ VALUES`, with the questions
 //! `order INSTANCE`, `solved INSTANCE LIMIT` for the sum, or `found INSTANCE LIMIT` for the longest duty; with lists of agreed and absent
-//! columns `solvedWith INSTANCE LIMIT AGREED ABSENT` and `foundWith INSTANCE LIMIT AGREED ABSENT`. Of the rest of these files only instances
-//! and numbers are read.
+//! columns `solvedWith INSTANCE LIMIT AGREED ABSENT` and `foundWith INSTANCE LIMIT AGREED ABSENT`, and with pairs of columns besides
+//! `solvedPaired INSTANCE LIMIT AGREED ABSENT PAIRS` and `foundPaired INSTANCE LIMIT AGREED ABSENT PAIRS`. Of the rest of these files only
+//! instances and numbers are read.
 
 use super::names::{numbers, Names};
 use super::reader::{statements, texts, Reader, Token};
@@ -14,19 +15,20 @@ use crate::plain;
 use crate::requests::Requests;
 
 /// The files of the rules that hold tables, and the names of these.
-const TABLES: [(&str, &[&str]); 4] = [
+const TABLES: [(&str, &[&str]); 5] = [
     ("crates/rules/specs/Files.antt", &["files"]),
     ("crates/rules/specs/Cases.antt", &["orders", "cases"]),
     ("crates/rules/specs/LongestCases.antt", &["longestCases"]),
     ("crates/rules/specs/RequestCases.antt", &["requestCases"]),
+    ("crates/rules/specs/PairCases.antt", &["pairCases"]),
 ];
 
 /// What a place of a table asks of an instance.
 pub enum Question {
     /// The rows in the sequence that reducing uses them.
     Order,
-    /// The answer of the search for a goal within a node limit, with lists of agreed and absent columns.
-    Search { goal: Goal, limit: u32, agreed: Vec<u16>, absent: Vec<u16> },
+    /// The answer of the search for a goal within a node limit, with lists of agreed and absent columns and of pairs.
+    Search { goal: Goal, limit: u32, agreed: Vec<u16>, absent: Vec<u16>, pairs: Vec<u16> },
 }
 
 /// A place of a table: an instance, what is asked, and the value that is stored, with its line.
@@ -72,9 +74,9 @@ impl Place {
                 let answer = plain::reduce(&file, &mut [0; 256], &mut order);
                 list(&order[..answer.used as usize])
             }
-            Question::Search { goal, limit, agreed, absent } => {
+            Question::Search { goal, limit, agreed, absent, pairs } => {
                 let mut plan = [0; 64];
-                let answer = plain::search_with(*goal, &file, *limit, Requests { agreed, absent }, &mut plan);
+                let answer = plain::search_with(*goal, &file, *limit, Requests { agreed, absent, pairs }, &mut plan);
                 value(&answer, &plan[..answer.columns as usize])
             }
         }
@@ -98,16 +100,19 @@ fn question(term: &Term, names: &Names) -> Option<(String, Question)> {
     let Form::Apply(parts) = &term.form else { return None };
     let words: Vec<&str> = parts.iter().map_while(Term::word).collect();
     let lists: Vec<Vec<u16>> = parts[words.len()..].iter().map(numbers).collect::<Option<_>>()?;
-    let search = |goal: Goal, limit: &str, agreed: &[u16], absent: &[u16]| {
+    let search = |goal: Goal, limit: &str, lists: [&[u16]; 3]| {
         let limit = names.numbers.get(limit).copied().or_else(|| limit.parse().ok())?;
-        Some(Question::Search { goal, limit, agreed: agreed.to_vec(), absent: absent.to_vec() })
+        let [agreed, absent, pairs] = lists.map(<[u16]>::to_vec);
+        Some(Question::Search { goal, limit, agreed, absent, pairs })
     };
     let asked = match (&words[..], &lists[..]) {
         (["order", _], []) => Question::Order,
-        (["solved", _, limit], []) => search(Goal::Sum, limit, &[], &[])?,
-        (["found", _, limit], []) => search(Goal::Longest, limit, &[], &[])?,
-        (["solvedWith", _, limit], [agreed, absent]) => search(Goal::Sum, limit, agreed, absent)?,
-        (["foundWith", _, limit], [agreed, absent]) => search(Goal::Longest, limit, agreed, absent)?,
+        (["solved", _, limit], []) => search(Goal::Sum, limit, [&[]; 3])?,
+        (["found", _, limit], []) => search(Goal::Longest, limit, [&[]; 3])?,
+        (["solvedWith", _, limit], [agreed, absent]) => search(Goal::Sum, limit, [agreed, absent, &[]])?,
+        (["foundWith", _, limit], [agreed, absent]) => search(Goal::Longest, limit, [agreed, absent, &[]])?,
+        (["solvedPaired", _, limit], [agreed, absent, pairs]) => search(Goal::Sum, limit, [agreed, absent, pairs])?,
+        (["foundPaired", _, limit], [agreed, absent, pairs]) => search(Goal::Longest, limit, [agreed, absent, pairs])?,
         _ => return None,
     };
     Some((words[1].to_string(), asked))

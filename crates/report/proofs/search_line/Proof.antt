@@ -16,6 +16,9 @@ slice-aggregate-search c = search needs
 slice-aggregate-search-2 : tie.Need-slice-aggregate-search-2
 slice-aggregate-search-2 c = search needs
 
+slice-aggregate-search-3 : tie.Need-slice-aggregate-search-3
+slice-aggregate-search-3 c = search needs
+
 search-requires : tie.Need-search-requires
 search-requires c κs = search needs
 
@@ -30,7 +33,7 @@ same-length-2 c = search needs
 
 -- with no lists the call comes to what 01's does
 told : (c : tie.After-search) →
-    let a = c .before .before .before .before .before .before .before .args in
+    let a = c .before .before .before .before .before .before .before .before .args in
     searchOutcome (c .search .result) ≡ searching (a .file .now) (a .limit) (length (a .plan .now))
 told c = c .search .ensures .0 ∙ unasked-search _ _ _
 
@@ -38,7 +41,7 @@ returns : tie.Need-returns
 returns c =
     let d = c .before .before .before .before .before .before in
     let s = d .search in
-    let a = d .before .before .before .before .before .before .before in
+    let a = d .before .before .before .before .before .before .before .before in
     let k = c .before .before .put-line in
     let q = rw (told d) at (k .ensures .1) in (
       k .ensures .0,
@@ -57,6 +60,7 @@ search-line-spec =
     (tie.spec
     slice-aggregate-search
     slice-aggregate-search-2
+    slice-aggregate-search-3
     search-requires
     put-line-requires
     same-length

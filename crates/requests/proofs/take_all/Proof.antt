@@ -4,7 +4,7 @@ use native.Mathlib.Omega.{arith}
 use lib.ListN.{length, getD}
 use Rattle.goals.specs.Taking.{Takes}
 use Rattle.goals.proofs.Taking.{takes-room, takes-column, takes-low, takes-is}
-use Rattle.requests.proofs.Numbers.{numbers-low}
+use Rattle.rules.proofs.Numbers.{numbers-low}
 use Rattle.requests.proofs.Loops.{Taking, taking-start, taking-dead, taking-takes, taking-next, taking-end}
 use Rattle.requests.proofs.take_all.Statement.{statement}
 use Rattle.requests.proofs.take_all.Tie as tie

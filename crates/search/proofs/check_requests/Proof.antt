@@ -24,16 +24,22 @@ returns-2 c =
     let a = c .before .before in
     sym
     (goes-on _ (passes 14 (sym (a .before .columns-rise .ensures) ∙ not-false _ (a .if1 .left)))
-    ∙ fails 15 (sym (c .before .columns-rise2 .ensures) ∙ not-true _ (c .if2 .taken)))
+    ∙ stops-at 15 _ (fails 15 (sym (c .before .columns-rise2 .ensures) ∙ not-true _ (c .if2 .taken))))
+
+check-pairs-requires : tie.Need-check-pairs-requires
+check-pairs-requires c κs = search needs
 
 returns-3 : tie.Need-returns-3
-unfolding faultOf requestFault
+unfolding requestFault
 returns-3 c =
-    let a = c .before .before in
-    sym
+    let b = c .before in
+    let a = b .before .before in
+    c .check-pairs .ensures
+    ∙ sym
     (goes-on _ (passes 14 (sym (a .before .columns-rise .ensures) ∙ not-false _ (a .if1 .left)))
-    ∙ passes 15 (sym (c .before .columns-rise2 .ensures) ∙ not-false _ (c .if2 .left)))
+    ∙ goes-on _ (passes 15 (sym (b .before .columns-rise2 .ensures) ∙ not-false _ (b .if2 .left))))
 
 pub check-requests-spec : {M : Type 1} → statement M
 check-requests-spec =
-    tie.close (tie.spec columns-rise-requires returns columns-rise-requires-2 returns-2 returns-3)
+    tie.close
+    (tie.spec columns-rise-requires returns columns-rise-requires-2 returns-2 check-pairs-requires returns-3)

@@ -16,15 +16,15 @@ use Rattle.search.proofs.search_for.Tie as tie
 -- the file's matrix and costs
 loaded : (c : tie.After-found2) →
     let k = c .before .before in
-    Loaded (k .before .before .before .before .before .before .before .before .before .args .file .now) (c .found2 .given .0 .0) (k .read-matrix .last .1 .0) (k .read-matrix .last .1 .1 .0)
+    Loaded (k .before .before .before .before .before .before .before .before .before .before .args .file .now) (c .found2 .given .0 .0) (k .read-matrix .last .1 .0) (k .read-matrix .last .1 .1 .0)
 loaded c = c .before .before .read-matrix .ensures .1 .1 .1 _ (c .found2 .given .1)
 
 -- the root, where the tests pass
 rooted : (c : tie.After-root-node) →
     let f = c .before .before .before .before .before .before in
     let k = f .before .before in
-    let a = k .before .before .before .before .before .before .before .before .before .args in
-    Rooted (a .file .now) (a .limit) (length (a .plan .now)) (asking (a .agreed .now) (a .absent .now)) (f .found2 .given .0 .0)
+    let a = k .before .before .before .before .before .before .before .before .before .before .args in
+    Rooted (a .file .now) (a .limit) (length (a .plan .now)) (asking (a .agreed .now) (a .absent .now) (a .pairs .now)) (f .found2 .given .0 .0)
     (k .read-matrix .last .1 .0) (c .root-node .result)
 rooted c =
     let t = c .before .before in

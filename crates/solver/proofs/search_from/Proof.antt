@@ -15,14 +15,14 @@ fresh-tally-requires c κs = search needs
 
 enter-requires : tie.Need-enter-requires
 enter-requires c κs =
-    let p = c .before .before .before .pre in
+    let p = c .before .before .before .before .pre in
     dead-room (c .fresh-tally .result) _ (c .fresh-tally .ensures) (p .one) (p .limited)
 
 returns-2 : tie.Need-returns-2
 returns-2 c =
     let f = c .before in
     let k = f .before in
-    dead-ends (f .fresh-tally .result) _ (f .fresh-tally .ensures) (k .before .before .pre .one) _ _ _ (k .if1 .left)
+    dead-ends (f .fresh-tally .result) _ (f .fresh-tally .ensures) (k .before .before .before .pre .one) _ _ _ (k .if1 .left)
     (c .enter .result) (c .enter .ensures)
 
 pub search-from-spec : {M : Type 1} → statement M

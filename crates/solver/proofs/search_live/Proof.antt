@@ -12,14 +12,14 @@ fresh-tally-requires c κs = search needs
 
 node-requires : tie.Need-node-requires
 node-requires c κs =
-    let p = c .before .before .before .before .pre in
+    let p = c .before .before .before .before .before .pre in
     record { some = p .some; count = fresh-count (c .fresh-tally .result) _ (c .fresh-tally .ensures) (p .limited) }
 
 returns : tie.Need-returns
 returns c =
     let f = c .before in
     let s = f .before .before in
-    ends (f .fresh-tally .result) _ (f .fresh-tally .ensures) (s .before .before .pre .one) _ _ _ _ (s .settle .ensures) (c .node .result) (c .node .ensures .0)
+    ends (f .fresh-tally .result) _ (f .fresh-tally .ensures) (s .before .before .before .pre .one) _ _ _ _ (s .settle .ensures) (c .node .result) (c .node .ensures .0)
 
 pub search-live-spec : {M : Type 1} → statement M
 search-live-spec = tie.close (tie.spec settle-requires fresh-tally-requires node-requires returns)

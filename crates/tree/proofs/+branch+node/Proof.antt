@@ -34,23 +34,23 @@ use Rattle.tree.proofs.settle_node.Reads as settle-reads
 use Rattle.tree.proofs.+branch+node.{statement}
 use Rattle.tree.proofs.+branch+node.Tie.{close}
 
-abbrev μ-branch : Measures 1 branch-kinds.ps ℕ
+abbrev μ-branch : Measures 2 branch-kinds.ps ℕ
 μ-branch κs a = 2 * size (matrixIn (a .1 .1 .1 .0 .now)) (a .1 .0)
 
-abbrev μ-node : Measures 1 node-kinds.ps ℕ
+abbrev μ-node : Measures 2 node-kinds.ps ℕ
 μ-node κs a = 2 * size (matrixIn (a .1 .1 .1 .0 .now)) (a .1 .0) + 1
 
-abbrev branch-at : ℕ → In 1 branch-kinds.ps
-branch-at t = and 1 branch-kinds.ps (is 1 branch-kinds.ps μ-branch t) branch.Pre
+abbrev branch-at : ℕ → In 2 branch-kinds.ps
+branch-at t = and 2 branch-kinds.ps (is 2 branch-kinds.ps μ-branch t) branch.Pre
 
-abbrev branch-below : ℕ → In 1 branch-kinds.ps
-branch-below t = and 1 branch-kinds.ps (falls 1 branch-kinds.ps _<_ μ-branch t) branch.Pre
+abbrev branch-below : ℕ → In 2 branch-kinds.ps
+branch-below t = and 2 branch-kinds.ps (falls 2 branch-kinds.ps _<_ μ-branch t) branch.Pre
 
-abbrev node-at : ℕ → In 1 node-kinds.ps
-node-at t = and 1 node-kinds.ps (is 1 node-kinds.ps μ-node t) node.Pre
+abbrev node-at : ℕ → In 2 node-kinds.ps
+node-at t = and 2 node-kinds.ps (is 2 node-kinds.ps μ-node t) node.Pre
 
-abbrev node-below : ℕ → In 1 node-kinds.ps
-node-below t = and 1 node-kinds.ps (falls 1 node-kinds.ps _<_ μ-node t) node.Pre
+abbrev node-below : ℕ → In 2 node-kinds.ps
+node-below t = and 2 node-kinds.ps (falls 2 node-kinds.ps _<_ μ-node t) node.Pre
 
 -- what each is handed of what it calls: of the other one below t, of the rest as it stands
 abbrev branch-claims : ℕ → branch-lts.Claims
@@ -86,17 +86,17 @@ node-claims t = (
 )
 
 branch-choose-requires : (t : ℕ) → branch-lts.Need-choose-for-requires (branch-claims t) (branch-at t) branch.Post
-branch-choose-requires t c κs = record { wide = search needs; node = c .before .before .before .before .before .pre .1 .node }
+branch-choose-requires t c κs = record { wide = search needs; node = c .before .before .before .before .before .before .pre .1 .node }
 
 -- the column chosen can be taken, and with the bound that is worked out it is taken as the search for the goal does
 can : (t : ℕ) (c : branch-lts.After-choose-for (branch-claims t) (branch-at t) branch.Post) →
-    let a = c .before .before .before .before .before .before .args in
+    let a = c .before .before .before .before .before .before .before .args in
     Takes (a .goal) (a .matrix .now) (a .t2) (c .choose-for .result .column)
-can t c = can-take _ _ _ _ (c .before .before .before .before .before .before .pre .1) _ (c .choose-for .ensures)
+can t c = can-take _ _ _ _ _ (c .before .before .before .before .before .before .before .pre .1) _ (c .choose-for .ensures)
 
 with : (t : ℕ) (c : branch-lts.After-take (branch-claims t) (branch-at t) branch.Post) →
     let d = c .before .before .before .before in
-    let a = d .before .before .before .before .before .before .args in
+    let a = d .before .before .before .before .before .before .before .args in
     let p = matrixIn (a .matrix .now) in
     let j = d .choose-for .result .column in
     c .take .result ≡ take p (a .t2) j (searchFor (a .goal) p .join (a .t2) j)
@@ -120,17 +120,17 @@ branch-take-requires t c κs = takes-column _ _ _ _ (can t (c .before .before .b
 branch-node-requires : (t : ℕ) → branch-lts.Need-node-requires (branch-claims t) (branch-at t) branch.Post
 branch-node-requires t c κs =
     let d = c .before .before .before .before in
-    let w = d .before .before .before .before .before .before .pre in
-    let l = first-falls _ _ _ _ (w .1) _ (d .choose-for .ensures) _ (with t c) in
-    (omega (arith, l, w .0), first-walks _ _ _ _ (w .1) _ (d .choose-for .ensures) _ (with t c))
+    let w = d .before .before .before .before .before .before .before .pre in
+    let l = first-falls _ _ _ _ _ (w .1) _ (d .choose-for .ensures) _ (with t c) in
+    (omega (arith, l, w .0), first-walks _ _ _ _ _ (w .1) _ (d .choose-for .ensures) _ (with t c))
 
 branch-returns : (t : ℕ) → branch-lts.Need-returns (branch-claims t) (branch-at t) branch.Post
 branch-returns t c =
     let u = c .before in
     let k = u .before in
     let d = k .before .before .before .before in
-    let w = d .before .before .before .before .before .before .pre .1 in (
-      branch-stops _ _ _ _ w _ (d .choose-for .ensures) _ (with t k) (u .node .result) (u .node .ensures .0) (c .if1 .taken),
+    let w = d .before .before .before .before .before .before .before .pre .1 in (
+      branch-stops _ _ _ _ _ w _ (d .choose-for .ensures) _ (with t k) (u .node .result) (u .node .ensures .0) (c .if1 .taken),
       u .node .ensures .1,
     )
 
@@ -143,8 +143,8 @@ branch-returns-2 t c =
     let u = f .before in
     let k = u .before in
     let d = k .before .before .before .before in
-    let w = d .before .before .before .before .before .before .pre .1 in (
-      branch-reached _ _ _ _ w _ (d .choose-for .ensures) _ (with t k) (u .node .result) (u .node .ensures .0) (f .if1 .left) _ (c .before .is-reached .ensures)
+    let w = d .before .before .before .before .before .before .before .pre .1 in (
+      branch-reached _ _ _ _ _ w _ (d .choose-for .ensures) _ (with t k) (u .node .result) (u .node .ensures .0) (f .if1 .left) _ (c .before .is-reached .ensures)
           (c .if2 .taken),
       u .node .ensures .1,
     )
@@ -152,15 +152,15 @@ branch-returns-2 t c =
 branch-leave-requires : (t : ℕ) → branch-lts.Need-leave-requires (branch-claims t) (branch-at t) branch.Post
 branch-leave-requires t c κs =
     let d = c .before .before .before .before .before .before .before .before in
-    column-low _ _ _ _ (d .before .before .before .before .before .before .pre .1) _ (d .choose-for .ensures)
+    column-low _ _ _ _ _ (d .before .before .before .before .before .before .before .pre .1) _ (d .choose-for .ensures)
 
 branch-node-requires-2 : (t : ℕ) → branch-lts.Need-node-requires-2 (branch-claims t) (branch-at t) branch.Post
 branch-node-requires-2 t c κs =
     let u = c .before .before .before .before in
     let d = u .before .before .before .before .before in
-    let w = d .before .before .before .before .before .before .pre in
-    let l = second-falls _ _ _ _ (w .1) _ (d .choose-for .ensures) _ (c .leave .ensures) in
-    (omega (arith, l, w .0), second-walks _ _ _ _ (w .1) _ (d .choose-for .ensures) _ (c .leave .ensures) _ (u .node .ensures .1))
+    let w = d .before .before .before .before .before .before .before .pre in
+    let l = second-falls _ _ _ _ _ (w .1) _ (d .choose-for .ensures) _ (c .leave .ensures) in
+    (omega (arith, l, w .0), second-walks _ _ _ _ _ (w .1) _ (d .choose-for .ensures) _ (c .leave .ensures) _ (u .node .ensures .1))
 
 branch-returns-3 : (t : ℕ) → branch-lts.Need-returns-3 (branch-claims t) (branch-at t) branch.Post
 branch-returns-3 t c =
@@ -169,8 +169,8 @@ branch-returns-3 t c =
     let u = f .before in
     let k = u .before in
     let d = k .before .before .before .before in
-    let w = d .before .before .before .before .before .before .pre .1 in (
-      branch-goes _ _ _ _ w _ (d .choose-for .ensures) _ (with t k) (u .node .result) (u .node .ensures .0) (f .if1 .left) _ (g .before .is-reached .ensures)
+    let w = d .before .before .before .before .before .before .before .pre .1 in (
+      branch-goes _ _ _ _ _ w _ (d .choose-for .ensures) _ (with t k) (u .node .result) (u .node .ensures .0) (f .if1 .left) _ (g .before .is-reached .ensures)
           (g .if2 .left) _ (c .before .leave .ensures) (c .node2 .result) (c .node2 .ensures .0),
       c .node2 .ensures .1 ∙ u .node .ensures .1,
     )
@@ -180,26 +180,26 @@ node-halt-requires t c κs = tt
 
 node-returns : (t : ℕ) → node-lts.Need-returns (node-claims t) (node-at t) node.Post
 node-returns t c =
-    let v = c .before .before .before .before .args .t in
+    let v = c .before .before .before .before .before .args .t in
     (node-halts _ _ _ v (c .before .if1 .taken) (c .halt .result) (c .halt .ensures), halted-sum v (c .halt .result) (c .halt .ensures))
 
 node-enter-requires : (t : ℕ) → node-lts.Need-enter-requires (node-claims t) (node-at t) node.Post
 node-enter-requires t c κs =
-    let w = c .before .before .before .pre .1 in
+    let w = c .before .before .before .before .pre .1 in
     (omega (arith, c .if1 .left), omega (arith, w .count))
 
 node-settle-node-requires : (t : ℕ) → node-lts.Need-settle-node-requires (node-claims t) (node-at t) node.Post
-node-settle-node-requires t c κs = c .before .before .before .before .pre .1 .some
+node-settle-node-requires t c κs = c .before .before .before .before .before .pre .1 .some
 
 node-returns-2 : (t : ℕ) → node-lts.Need-returns-2 (node-claims t) (node-at t) node.Post
 node-returns-2 t c =
     let n = c .before .before in
     let m = n .before in
     let z = m .before .if1 .left in
-    let a = m .before .before .before .before in
+    let a = m .before .before .before .before .before in
     let e = m .enter .result in
     let u = m .enter .ensures in
-    (node-ends _ _ _ (a .args .t) z e u _ (comes _ _ _ _ (a .pre .1) _ (n .settle-node .ensures)) (not-true _ (c .if2 .taken)), entered-sum (a .args .t) e z u)
+    (node-ends _ _ _ (a .args .t) z e u _ (comes _ _ _ _ _ (a .pre .1) _ (n .settle-node .ensures)) (not-true _ (c .if2 .taken)), entered-sum (a .args .t) e z u)
 
 node-offer-requires : (t : ℕ) → node-lts.Need-offer-requires (node-claims t) (node-at t) node.Post
 node-offer-requires t c κs = tt
@@ -211,10 +211,10 @@ node-returns-3 t c =
     let n = g .before .before in
     let m = n .before in
     let z = m .before .if1 .left in
-    let a = m .before .before .before .before in
+    let a = m .before .before .before .before .before in
     let e = m .enter .result in
     let u = m .enter .ensures in (
-      node-offers _ _ _ (a .args .t) z e u _ (comes _ _ _ _ (a .pre .1) _ (n .settle-node .ensures)) (not-false _ (g .if2 .left)) (f .if3 .taken)
+      node-offers _ _ _ (a .args .t) z e u _ (comes _ _ _ _ _ (a .pre .1) _ (n .settle-node .ensures)) (not-false _ (g .if2 .left)) (f .if3 .taken)
           (c .offer .result) (c .offer .ensures),
       offered-sum e (c .offer .result) _ (n .settle-node .result .node .column) (c .offer .ensures) ∙ entered-sum (a .args .t) e z u,
     )
@@ -229,10 +229,10 @@ node-returns-4 t c =
     let n = g .before .before in
     let m = n .before in
     let z = m .before .if1 .left in
-    let a = m .before .before .before .before in
+    let a = m .before .before .before .before .before in
     let e = m .enter .result in
     let u = m .enter .ensures in (
-      node-reached _ _ _ (a .args .t) z e u _ (comes _ _ _ _ (a .pre .1) _ (n .settle-node .ensures)) (not-false _ (g .if2 .left)) (f .if3 .left) _
+      node-reached _ _ _ (a .args .t) z e u _ (comes _ _ _ _ _ (a .pre .1) _ (n .settle-node .ensures)) (not-false _ (g .if2 .left)) (f .if3 .left) _
           (c .before .is-reached .ensures) (c .if4 .taken),
       entered-sum (a .args .t) e z u,
     )
@@ -244,12 +244,12 @@ node-branch-requires t c κs =
     let n = g .before .before in
     let m = n .before in
     let z = m .before .if1 .left in
-    let a = m .before .before .before .before in
+    let a = m .before .before .before .before .before in
     let e = m .enter .result in
     let q = entered-sum (a .args .t) e z (m .enter .ensures) in
     let x = n .settle-node .ensures in
-    let l = comes _ _ _ _ (a .pre .1) _ x .less in
-    (omega (arith, l, a .pre .0), can-branch _ _ _ _ (a .pre .1) _ x e q (not-false _ (g .if2 .left)) (f .if3 .left))
+    let l = comes _ _ _ _ _ (a .pre .1) _ x .less in
+    (omega (arith, l, a .pre .0), can-branch _ _ _ _ _ (a .pre .1) _ x e q (not-false _ (g .if2 .left)) (f .if3 .left))
 
 node-returns-5 : (t : ℕ) → node-lts.Need-returns-5 (node-claims t) (node-at t) node.Post
 node-returns-5 t c =
@@ -258,10 +258,10 @@ node-returns-5 t c =
     let n = g .before .before in
     let m = n .before in
     let z = m .before .if1 .left in
-    let a = m .before .before .before .before in
+    let a = m .before .before .before .before .before in
     let e = m .enter .result in
     let u = m .enter .ensures in (
-      node-branches _ _ _ (a .args .t) z e u _ (comes _ _ _ _ (a .pre .1) _ (n .settle-node .ensures)) (not-false _ (g .if2 .left)) (f .if3 .left) _
+      node-branches _ _ _ (a .args .t) z e u _ (comes _ _ _ _ _ (a .pre .1) _ (n .settle-node .ensures)) (not-false _ (g .if2 .left)) (f .if3 .left) _
           (c .before .before .is-reached .ensures) (c .before .if4 .left) (c .branch .result) (c .branch .ensures .0),
       c .branch .ensures .1 ∙ entered-sum (a .args .t) e z u,
     )

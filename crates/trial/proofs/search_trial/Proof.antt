@@ -85,17 +85,20 @@ root-node-requires c κs = c .before .fill-matrix .ensures .1 .kept
 slice-aggregate-search-live : tie.Need-slice-aggregate-search-live
 slice-aggregate-search-live c = search needs
 
+slice-aggregate-search-live-2 : tie.Need-slice-aggregate-search-live-2
+slice-aggregate-search-live-2 c = search needs
+
 search-live-requires : tie.Need-search-live-requires
 search-live-requires c κs =
-    let m = c .before .before .before in
+    let m = c .before .before .before .before in
     let p = m .before .before .before .before .before .before .before .before .before .before .before .before .before .before .before .pre in
-    searchable _ _ _ _ _ (p .0) _ (p .1) (p .2) _ _ (lists-loaded m) _ (c .before .root-node .ensures)
+    searchable _ _ _ _ _ (p .0) _ (p .1) (p .2) _ _ (lists-loaded m) _ (c .before .before .root-node .ensures)
 
 returns : tie.Need-returns
 returns c =
-    let m = c .before .before .before .before in
+    let m = c .before .before .before .before .before in
     let p = m .before .before .before .before .before .before .before .before .before .before .before .before .before .before .before .pre in
-    searched _ _ _ _ _ (p .0) _ (p .1) (p .2) _ _ (lists-loaded m) _ (c .before .before .root-node .ensures) (c .search-live .result) (c .search-live .ensures)
+    searched _ _ _ _ _ (p .0) _ (p .1) (p .2) _ _ (lists-loaded m) _ (c .before .before .before .root-node .ensures) (c .search-live .result) (c .search-live .ensures)
 
 pub search-trial-spec : {M : Type 1} → statement M
 search-trial-spec =
@@ -117,5 +120,6 @@ search-trial-spec =
     slice-aggregate-root-node
     root-node-requires
     slice-aggregate-search-live
+    slice-aggregate-search-live-2
     search-live-requires
     returns)

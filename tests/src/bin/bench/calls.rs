@@ -2,7 +2,7 @@
 
 use std::hint::black_box;
 
-use spp_tests::files::Columns;
+use spp_tests::files;
 use spp_tests::{engine, plain};
 
 use crate::measure::{self, keep};
@@ -10,13 +10,6 @@ use crate::measure::{self, keep};
 const REPEATS: usize = 31;
 /// Calls in one run.
 const CALLS: usize = 200;
-
-/// 64 rows, 256 columns of 16 rows each: 6,152 bytes.
-fn largest() -> Columns {
-    let body = |column: usize| (0..16).map(|part| (part * 4 + (column + part * column / 7) % 4) as u8 + 1).collect();
-    let costs = (0..256).map(|column| 1000 + (column * 7919) % 9973).collect();
-    Columns { rows: 64, costs, bodies: (0..256).map(body).collect() }
-}
 
 /// Lists with room for any file, lent again in each call.
 struct Lists {
@@ -44,7 +37,7 @@ fn line(name: &str, engine: impl Fn(&mut Lists), base: impl Fn(&mut Lists)) {
 }
 
 pub fn table() {
-    let columns = largest();
+    let columns = files::largest();
     let file = columns.file();
     let (costs, lengths, numbers) = (columns.costs.clone(), columns.lengths(), columns.numbers());
     let offered: Vec<u16> = (1..=256).step_by(64).collect();
