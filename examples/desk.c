@@ -1,11 +1,12 @@
 /*
  * A desk plug-in: reads a duty file, searches for the cheapest plan, or for the one whose longest duty is cheapest, checks it and prints
  * the roster. The numbers after `agreed` are those of duties that must be in the plan, and after `absent` of duties that must not be; both
- * rise. With `drag` it makes an empty desk over the file, puts duty N in at +N and takes it out at -N, and says after each such step whether
- * the duties in are a plan.
+ * rise. Those after `pairs` are the first and the second duty of each pair in turn: the first may be in the plan only if the second is.
+ * With `drag` it makes an empty desk over the file, puts duty N in at +N and takes it out at -N, and says after each such step whether the
+ * duties in are a plan.
  *
  *     gcc -Iinclude examples/desk.c target/staticlib/libspp.a -o desk
- *     ./desk FILE [ALLOWANCE [sum|longest [agreed N..] [absent N..]]]
+ *     ./desk FILE [ALLOWANCE [sum|longest [agreed N..] [absent N..] [pairs N N..]]]
  *     ./desk FILE drag [+N|-N]..
  *
  * Exit status: 0 with a roster, or with a plan on the desk at the end; 1 if there is no plan to show; 2 with an error.
@@ -27,10 +28,18 @@ struct duties {
     struct spp_shape shape;
 };
 
-/* Duty numbers. A list that is longer than this cannot rise, and is refused by its first places. */
+/*
+ * Duty numbers. A list that is longer than this cannot rise, and is refused by its first places; and as pairs it is refused by its
+ * length, which is one above that of the most pairs.
+ */
 struct numbers {
     uint16_t list[SPP_MOST_COLUMNS + 1];
     size_t count;
+};
+
+/* The lists that a desk may give. */
+struct asked {
+    struct numbers agreed, absent, pairs;
 };
 
 /* The first refusals, each at the place of its number. */
@@ -60,6 +69,10 @@ static const char *reason(uint32_t refusal) {
     switch (refusal) {
     case SPP_NO_COLUMN:
         return "the duty number is out of range";
+    case SPP_BAD_PAIR:
+        return "a duty number of a pair is out of range, or a duty is paired with itself";
+    case SPP_BAD_PAIR_COUNT:
+        return "the pairs have an odd number of duty numbers, or are more than 128";
     case SPP_OVERLAP:
         return "two lent lists overlap";
     default:
@@ -139,6 +152,15 @@ static int print_roster(const struct duties *duties, struct spp_answer answer, c
     return 0;
 }
 
+/* What no plan does, by the lists that are given. */
+static const char *unmet(const struct spp_lists *lists) {
+    int listed = lists->agreed_count || lists->absent_count;
+    if (lists->pair_count) {
+        return listed ? "has every agreed duty and no absent one and obeys the pairs" : "obeys the pairs";
+    }
+    return listed ? "has every agreed duty and no absent one" : "exists";
+}
+
 static int solve(const struct duties *duties, uint32_t node_limit, int longest, const struct spp_lists *lists) {
     uint16_t plan[SPP_MOST_ROWS];
     struct spp_answer answer = (longest ? spp_longest_with : spp_search_with)(duties->file, duties->length, node_limit,
@@ -150,9 +172,7 @@ static int solve(const struct duties *duties, uint32_t node_limit, int longest, 
         return print_roster(duties, answer, plan, longest);
     }
     if (answer.outcome == SPP_NONE) {
-        printf("no roster: no plan %s, %u nodes\n",
-               lists->agreed_count || lists->absent_count ? "has every agreed duty and no absent one" : "exists",
-               (unsigned)answer.nodes);
+        printf("no roster: no plan %s, %u nodes\n", unmet(lists), (unsigned)answer.nodes);
     } else {
         printf("no roster: stopped without a plan, floor %llu, %u nodes\n", (unsigned long long)answer.bound,
                (unsigned)answer.nodes);
@@ -168,7 +188,7 @@ static unsigned long number_of(const char *text, unsigned long most, unsigned lo
 }
 
 static int usage(void) {
-    fprintf(stderr, "usage: desk FILE [ALLOWANCE [sum|longest [agreed N..] [absent N..]]]\n");
+    fprintf(stderr, "usage: desk FILE [ALLOWANCE [sum|longest [agreed N..] [absent N..] [pairs N N..]]]\n");
     fprintf(stderr, "       desk FILE drag [+N|-N]..\n");
     return 2;
 }
@@ -184,15 +204,17 @@ static int no_duty(const char *word) {
     return 2;
 }
 
-/* Reads the words after the goal, up to a null pointer: numbers after `agreed` or `absent` are put into that list. */
-static int read_lists(char **words, struct numbers *agreed, struct numbers *absent) {
+/* Reads the words after the goal, up to a null pointer: numbers after `agreed`, `absent` or `pairs` are put into that list. */
+static int read_lists(char **words, struct asked *asked) {
     struct numbers *numbers = NULL;
     for (; *words; words++) {
         unsigned long number = duty_of(*words);
         if (!strcmp(*words, "agreed")) {
-            numbers = agreed;
+            numbers = &asked->agreed;
         } else if (!strcmp(*words, "absent")) {
-            numbers = absent;
+            numbers = &asked->absent;
+        } else if (!strcmp(*words, "pairs")) {
+            numbers = &asked->pairs;
         } else if (!numbers) {
             return usage();
         } else if (number == NO_DUTY) {
@@ -272,7 +294,7 @@ static int drag_by_words(struct duties *duties, char **words) {
 
 /* The file, and perhaps an allowance, a goal and lists. */
 static int solve_by_words(struct duties *duties, int count, char **words) {
-    static struct numbers agreed, absent;
+    static struct asked asked;
     struct spp_lists lists;
     uint32_t node_limit = SPP_MOST_NODES;
     int longest = count > 3 && !strcmp(words[3], "longest"), failed;
@@ -283,16 +305,18 @@ static int solve_by_words(struct duties *duties, int count, char **words) {
         /* The search refuses 0. */
         node_limit = (uint32_t)number_of(words[2], SPP_MOST_NODES, 0);
     }
-    failed = count > 4 ? read_lists(words + 4, &agreed, &absent) : 0;
+    failed = count > 4 ? read_lists(words + 4, &asked) : 0;
     failed = failed ? failed : load(words[1], duties);
     if (failed) {
         return failed;
     }
     memset(&lists, 0, sizeof lists);
-    lists.agreed = agreed.list;
-    lists.agreed_count = agreed.count;
-    lists.absent = absent.list;
-    lists.absent_count = absent.count;
+    lists.agreed = asked.agreed.list;
+    lists.agreed_count = asked.agreed.count;
+    lists.absent = asked.absent.list;
+    lists.absent_count = asked.absent.count;
+    lists.pairs = asked.pairs.list;
+    lists.pair_count = asked.pairs.count;
     return solve(duties, node_limit, longest, &lists);
 }
 

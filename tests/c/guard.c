@@ -672,7 +672,7 @@ static void accepted_desk(void) {
 
 /* Accepted calls through the header: stated values. */
 static void accepted(void) {
-    const struct spp_answer pairs_by_sum = {0, SPP_BEST, 1, 3, 1, 18, 18}, pairs_by_longest = {0, SPP_BEST, 1, 3, 1, 7, 7};
+    const struct spp_answer pairs_by_sum = {0, SPP_BEST, 1, 3, 2, 18, 17}, pairs_by_longest = {0, SPP_BEST, 1, 3, 2, 7, 6};
     uint32_t read_costs[8], reduced[8];
     uint16_t read_lengths[8];
     uint8_t read_rows[13], order[5];

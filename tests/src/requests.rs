@@ -1,7 +1,7 @@
 //! What a desk asks of a plan besides (02, P2 and P8).
 
-/// Columns that must be in the plan, columns that must not be, and pairs of columns of which the first may be in the plan only if the second
-/// is; numbered from 1, as they are lent.
+/// Columns that must be in the plan, columns that must not be, and pairs of columns of which the first may be in the plan only if the
+/// second is; numbered from 1, as they are lent.
 #[derive(Clone, Copy, Debug)]
 pub struct Requests<'a> {
     pub agreed: &'a [u16],

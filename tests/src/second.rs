@@ -1,7 +1,7 @@
 //! A second solver. It tries sets of covered rows instead of branching on columns: a table gives the least price, by the goal, for each set
-//! that can be reached by covering the lowest open row again and again. With pairs of columns, sets of rows count apart where other columns
-//! that stand in a pair were chosen for them, and the pairs are looked at once all rows are covered. It reads no file: it takes the columns as
-//! they were made.
+//! that can be reached by covering the lowest open row again and again. With pairs of columns, sets of rows count apart where other
+//! columns that stand in a pair were chosen for them, and the pairs are looked at once all rows are covered. It reads no file: it takes the
+//! columns as they were made.
 
 use std::collections::HashMap;
 use std::hash::Hash;

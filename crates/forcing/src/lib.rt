@@ -1,12 +1,7 @@
-// Forcing (01, Forcing): what a row asks by its free columns, what the open rows ask together, and the columns taken until
-// nothing is forced.
-use goals::join;
-use node::Node;
+// Forcing (01, Forcing): what a row asks by its free columns, and what the open rows ask together.
 use node::row_count;
 use node::row_part;
 use rules::Asked;
-use rules::Forced;
-use rules::Goal;
 ghost use mathlib.Core.Path.{_≡_};
 ghost use mathlib.Core.List.{[]};
 ghost use lib.ListN.{length};
@@ -14,8 +9,6 @@ ghost use Rattle.node.specs.Lists.{first};
 ghost use Rattle.node.specs.View.{view};
 ghost use Rattle.node.specs.Stored.{matrixIn, Kept, HasRow, Columns, rowColumns};
 ghost use Rattle.rules.specs.Force.{asked};
-ghost use Rattle.rules.specs.Goals.{searchFor};
-ghost use Rattle.rules.proofs.Goals.{WorkableFor};
 ghost use Rattle.forcing.specs.Rows.{freeIn, asksBy, sooner};
 
 // How many of some columns are free.
@@ -111,32 +104,4 @@ pub fn open_rows_ask<'a>(column: &'a [u8; 256], row: &'a [u8; 64], matrix: &[u16
         }
     }
     found
-}
-
-// Takes what is forced until nothing is.
-pub fn force(goal: Goal, mut s: Node, matrix: &[u16]) -> Forced
-    requires { ⌜ WorkableFor goal (now matrix) s ⌝ }
-    ensures { λ r. ⌜ r ≡ searchFor goal (matrixIn (now (matrix .entry))) .settle s ⌝ }
-{
-    loop {
-        let found = open_rows_ask(&s.column, &s.row, matrix);
-        match found {
-            Asked::Dead => {
-                return Forced {
-                    node: s,
-                    alive: false,
-                };
-            }
-            Asked::Settled => {
-                return Forced {
-                    node: s,
-                    alive: true,
-                };
-            }
-            Asked::Take(j) => {
-                let bound = join(goal, s.bound, s.cost[j]);
-                s = s.take(j, bound, matrix);
-            }
-        }
-    }
 }

@@ -4,9 +4,7 @@ use mathlib.Core.Bool.{Bool, true, false, _||_}
 use mathlib.Core.List.{List, [], _∷_}
 use Prim.Native.Nat.{ℕ, _+_, _-_, _≤_, _<_}
 use native.Mathlib.Omega.{arith}
-use lib.ListN.{length, getD, drop, drop-of-length-le}
-use lib.Dec.{ltb}
-use borrow.Author.Tests.{ltb-true, ltb-false}
+use lib.ListN.{length, getD, drop}
 use Rattle.node.specs.declared.Node.{Node}
 use Rattle.node.specs.Matrix.{Matrix}
 use Rattle.node.specs.Node.{mark, take, leave}
@@ -14,22 +12,21 @@ use Rattle.node.specs.Stored.{matrixIn}
 use Rattle.rules.specs.declared.Goal.{Goal}
 use Rattle.rules.specs.declared.PairAsked.{PairAsked}
 use Rattle.rules.specs.declared.PairAsked.the-variants.{TakeSecond, Dead, LeaveFirst, Nothing}
-use Rattle.rules.specs.declared.Passed.{Passed}
 use Rattle.rules.specs.Goals.{searchFor}
-use Rattle.rules.specs.Tree.{Variant}
-use Rattle.rules.specs.Pairs.{Pair, pair, pairsOf, pairAsked, passOn, pass}
+use Rattle.rules.specs.Tree.{Variant, live, dead}
+use Rattle.rules.specs.Pairs.{Pair, pair, Passed, pairsOf, pairAsked, passOn, pass}
 use Rattle.rules.proofs.Plans.{Free}
 use Rattle.rules.proofs.Goals.{WorkableFor, goal-steps}
 use Rattle.rules.proofs.Pairs.{asked-why}
 use Rattle.rules.proofs.Numbers.{drop-two, drop-few}
 use Rattle.rules.proofs.Sides.{SideFits, WorkableWith}
 use Rattle.goals.specs.Taking.{Takes}
-use Rattle.pairs.specs.Asks.{askedBy, asks, someAsks}
+use Rattle.pairs.specs.Asks.{askedBy, asks, someAsks, nodeAfter}
 
 -- what a pair asks depends on the marks of its columns alone
-pub asked-marks : (s : Node) (q : Pair) → askedBy (mark s (q .first)) (mark s (q .second)) ≡ pairAsked s q
+pub pair-marks : (s : Node) (q : Pair) → askedBy (mark s (q .first)) (mark s (q .second)) ≡ pairAsked s q
 unfolding askedBy pairAsked
-asked-marks s q = refl
+pair-marks s q = refl
 
 -- the pairs of a list from place k on
 abbrev rest : List ℕ → ℕ → List Pair
@@ -71,21 +68,25 @@ module _ (marks ns : List ℕ) (k : ℕ) (w : Looking marks ns k) where
   looking-end l = sym (ap (someAsks marks) (rest-end ns k l)) ∙ w .left
 
 -- at place k, with the pairs before it gone through
-pub record Passing (g : Goal) (l ns : List ℕ) (s₀ : Node) (s : Node) (c : Bool) (k : ℕ) : Type 0 where
+pub record Passing (g : Goal) (l ns : List ℕ) (s₀ s : Node) (k : ℕ) : Type 0 where
   pub some : WorkableFor g l s
   pub low : k ≤ length ns
-  pub left : pass (searchFor g (matrixIn l) .join) (matrixIn l) (rest ns k) s c
+  pub changed : Bool
+  pub left : pass (searchFor g (matrixIn l) .join) (matrixIn l) (rest ns k) s changed
       ≡ pass (searchFor g (matrixIn l) .join) (matrixIn l) (pairsOf ns) s₀ false
 
-pub passing-start : (g : Goal) (l ns : List ℕ) (s : Node) → WorkableWith g ns l s → Passing g l ns s s false 0
-passing-start g l ns s w = record { some = w .some; low = omega arith; left = refl }
+pub passing-start : (g : Goal) (l ns : List ℕ) (s : Node) → WorkableWith g ns l s → Passing g l ns s s 0
+passing-start g l ns s w = record { some = w .some; low = omega arith; changed = false; left = refl }
 
-module _ (g : Goal) (l ns : List ℕ) (s₀ s : Node) (c : Bool) (k : ℕ) (w : Passing g l ns s₀ s c k) where
+module _ (g : Goal) (l ns : List ℕ) (s₀ s : Node) (k : ℕ) (w : Passing g l ns s₀ s k) where
   abbrev p : Matrix
   p = matrixIn l
 
   abbrev o : Variant
   o = searchFor g (matrixIn l)
+
+  abbrev c : Bool
+  c = w .changed
 
   abbrev whole : Passed
   whole = pass (searchFor g (matrixIn l) .join) (matrixIn l) (pairsOf ns) s₀ false
@@ -93,19 +94,19 @@ module _ (g : Goal) (l ns : List ℕ) (s₀ s : Node) (c : Bool) (k : ℕ) (w : 
   module _ (within : k + 1 < length ns) (found : PairAsked)
       (told : found ≡ askedBy (mark s (getD ns k 0 - 1)) (mark s (getD ns (k + 1) 0 - 1))) where
     is : found ≡ pairAsked s (at ns k)
-    is = told ∙ asked-marks s (at ns k)
+    is = told ∙ pair-marks s (at ns k)
 
     next : passOn (o .join) p found (at ns k) s c (pass (o .join) p (rest ns (k + 2))) ≡ whole
     unfolding pass
     next = rw is (sym (ap (λ (qs : List Pair). pass (o .join) p qs s c) (rest-step ns k within)) ∙ w .left)
 
-    pub passing-dead : found ≡ Dead → record { node = s; alive = false; changed = c } ≡ whole
+    pub passing-dead : found ≡ Dead → dead s ≡ nodeAfter whole
     unfolding passOn
-    passing-dead h = rw h at next
+    passing-dead h = ap nodeAfter (rw h at next)
 
-    pub passing-nothing : found ≡ Nothing → Passing g l ns s₀ s c (k + 2)
+    pub passing-nothing : found ≡ Nothing → Passing g l ns s₀ s (k + 2)
     unfolding passOn
-    passing-nothing h = record { some = w .some; low = omega arith; left = rw h at next }
+    passing-nothing h = record { some = w .some; low = omega arith; changed = c; left = rw h at next }
 
     module _ (f : SideFits l ns) where
       -- the first is free and is left
@@ -115,11 +116,12 @@ module _ (g : Goal) (l ns : List ℕ) (s₀ s : Node) (c : Bool) (k : ℕ) (w : 
             let b = f k (omega arith) in
             record { col = omega (arith, b .0, b .1); is-free = (rw (sym is ∙ h) at (asked-why s (at ns k))) .0 }
 
-        pub passing-leaves : (t : Node) → t ≡ leave s (getD ns k 0 - 1) → Passing g l ns s₀ t true (k + 2)
+        pub passing-leaves : (t : Node) → t ≡ leave s (getD ns k 0 - 1) → Passing g l ns s₀ t (k + 2)
         unfolding passOn
         passing-leaves t e = record {
           some = rw e (goal-steps g l (w .some .kept) .leaving s _ leaves (w .some));
           low = omega arith;
+          changed = true;
           left = rw e (rw h at next);
         }
 
@@ -133,14 +135,15 @@ module _ (g : Goal) (l ns : List ℕ) (s₀ s : Node) (c : Bool) (k : ℕ) (w : 
               free = record { col = omega (arith, b .0, b .1); is-free = (rw (sym is ∙ h) at (asked-why s (at ns k))) .1 };
             }
 
-        pub passing-taken : (t : Node) → t ≡ take p s (getD ns (k + 1) 0 - 1) (o .join s (getD ns (k + 1) 0 - 1)) → Passing g l ns s₀ t true (k + 2)
+        pub passing-taken : (t : Node) → t ≡ take p s (getD ns (k + 1) 0 - 1) (o .join s (getD ns (k + 1) 0 - 1)) → Passing g l ns s₀ t (k + 2)
         unfolding passOn
         passing-taken t e = record {
           some = rw e (goal-steps g l (w .some .kept) .taking s _ (passing-takes .free) (w .some));
           low = omega arith;
+          changed = true;
           left = rw e (rw h at next);
         }
 
-  pub passing-end : length ns ≤ k + 1 → record { node = s; alive = true; changed = c } ≡ whole
+  pub passing-end : length ns ≤ k + 1 → live s ≡ nodeAfter whole
   unfolding pass
-  passing-end h = sym (ap (λ (qs : List Pair). pass (o .join) p qs s c) (rest-end ns k h)) ∙ w .left
+  passing-end h = ap nodeAfter (sym (ap (λ (qs : List Pair). pass (o .join) p qs s c) (rest-end ns k h)) ∙ w .left)

@@ -1,4 +1,4 @@
--- What a pair asks by the marks of its columns, and whether some pair asks anything.
+-- What a pair asks by the marks of its columns, whether some pair asks anything, and the node when the pairs have been gone through.
 use mathlib.Core.Bool.{Bool, true, false, not, cond, _&&_, _||_}
 use mathlib.Core.List.{List, [], _∷_}
 use Prim.Native.Nat.{ℕ}
@@ -6,7 +6,8 @@ use lib.ListN.{getD}
 use lib.Dec.{eqb}
 use Rattle.rules.specs.declared.PairAsked.{PairAsked}
 use Rattle.rules.specs.declared.PairAsked.the-variants.{TakeSecond, Dead, LeaveFirst, Nothing}
-use Rattle.rules.specs.Pairs.{Pair}
+use Rattle.rules.specs.declared.Forced.{Forced}
+use Rattle.rules.specs.Pairs.{Pair, Passed}
 
 -- by the marks of the first and of the second: 1 free, 2 taken
 unfoldable pub askedBy : ℕ → ℕ → PairAsked
@@ -26,3 +27,6 @@ asks Nothing = false
 unfoldable pub someAsks : List ℕ → List Pair → Bool
 someAsks marks [] = false
 someAsks marks (q ∷ qs) = asks (askedBy (getD marks (q .first) 0) (getD marks (q .second) 0)) || someAsks marks qs
+
+abbrev pub nodeAfter : Passed → Forced
+nodeAfter r = record { node = r .node; alive = r .alive }

@@ -1,11 +1,11 @@
 // Pairs of columns (02, P8): what a pair asks, the pairs gone through in list sequence, and forcing and pairs done until nothing changes.
-use forcing::force;
+use forcing::open_rows_ask;
 use goals::join;
 use node::Node;
+use rules::Asked;
 use rules::Forced;
 use rules::Goal;
 use rules::PairAsked;
-use rules::Passed;
 ghost use mathlib.Core.Path.{_≡_};
 ghost use mathlib.Core.Bool.{false};
 ghost use Rattle.node.specs.Matrix.{Matrix};
@@ -14,7 +14,7 @@ ghost use Rattle.rules.specs.Goals.{searchFor, searchWith};
 ghost use Rattle.rules.specs.Pairs.{pairsOf, pass};
 ghost use Rattle.rules.proofs.Numbers.{Numbers};
 ghost use Rattle.rules.proofs.Sides.{WorkableWith};
-ghost use Rattle.pairs.specs.Asks.{askedBy, asks, someAsks};
+ghost use Rattle.pairs.specs.Asks.{askedBy, asks, someAsks, nodeAfter};
 
 // What a pair asks of a node, by the marks of its first and its second column: 1 free, 2 taken.
 fn pair_asks(first: u8, second: u8) -> PairAsked
@@ -66,11 +66,10 @@ fn some_asks(column: &[u8; 256], pairs: &[u16]) -> bool
 }
 
 // The pairs in list sequence: the second is taken, by the step of forcing, the first is left, or the node is dead.
-fn pass_pairs(goal: Goal, mut s: Node, matrix: &[u16], pairs: &[u16]) -> Passed
+fn pass_pairs(goal: Goal, mut s: Node, matrix: &[u16], pairs: &[u16]) -> Forced
     requires { ⌜ WorkableWith goal (now pairs) (now matrix) s ⌝ }
-    ensures { λ r. ⌜ (let p : Matrix = matrixIn (now (matrix .entry)) in r ≡ pass (searchFor goal p .join) p (pairsOf (now (pairs .entry))) s false) ⌝ }
+    ensures { λ r. ⌜ (let p : Matrix = matrixIn (now (matrix .entry)) in r ≡ nodeAfter (pass (searchFor goal p .join) p (pairsOf (now (pairs .entry))) s false)) ⌝ }
 {
-    let mut changed = false;
     let mut k = 0;
     while k + 1 < pairs.len() {
         let first = pairs[k] as usize - 1;
@@ -81,56 +80,59 @@ fn pass_pairs(goal: Goal, mut s: Node, matrix: &[u16], pairs: &[u16]) -> Passed
             PairAsked::TakeSecond => {
                 let bound = join(goal, s.bound, s.cost[second]);
                 s = s.take(second, bound, matrix);
-                changed = true;
             }
             PairAsked::Dead => {
-                return Passed {
+                return Forced {
                     node: s,
                     alive: false,
-                    changed: changed,
                 };
             }
             PairAsked::LeaveFirst => {
                 s = s.leave(first);
-                changed = true;
             }
             PairAsked::Nothing => {}
         }
     }
-    Passed {
+    Forced {
         node: s,
         alive: true,
-        changed: changed,
     }
 }
 
-// Forces a node and goes through the side constraints, which are pairs, and again until nothing changes.
+// Takes what is forced until nothing is, then goes through the side constraints, which are pairs; and again until nothing changes.
 pub fn force_with(goal: Goal, mut s: Node, matrix: &[u16], side: &[u16]) -> Forced
     requires { ⌜ WorkableWith goal (now side) (now matrix) s ⌝ }
     ensures { λ r. ⌜ r ≡ searchWith goal (now (side .entry)) (matrixIn (now (matrix .entry))) .settle s ⌝ }
 {
     loop {
-        let forced = force(goal, s, matrix);
-        if !forced.alive {
-            return forced;
-        }
-        s = forced.node;
-        if !some_asks(&s.column, side) {
-            return forced;
-        }
-        let passed = pass_pairs(goal, s, matrix, side);
-        s = passed.node;
-        if !passed.alive {
-            return Forced {
-                node: s,
-                alive: false,
-            };
-        }
-        if !passed.changed {
-            return Forced {
-                node: s,
-                alive: true,
-            };
+        let found = open_rows_ask(&s.column, &s.row, matrix);
+        match found {
+            Asked::Dead => {
+                return Forced {
+                    node: s,
+                    alive: false,
+                };
+            }
+            Asked::Take(j) => {
+                let bound = join(goal, s.bound, s.cost[j]);
+                s = s.take(j, bound, matrix);
+            }
+            Asked::Settled => {
+                if !some_asks(&s.column, side) {
+                    return Forced {
+                        node: s,
+                        alive: true,
+                    };
+                }
+                let passed = pass_pairs(goal, s, matrix, side);
+                s = passed.node;
+                if !passed.alive {
+                    return Forced {
+                        node: s,
+                        alive: false,
+                    };
+                }
+            }
         }
     }
 }

@@ -12,10 +12,9 @@ use Rattle.node.specs.Node.{isFree, isTaken, taken, take, leave}
 use Rattle.rules.specs.declared.Forced.{Forced}
 use Rattle.rules.specs.declared.PairAsked.{PairAsked}
 use Rattle.rules.specs.declared.PairAsked.the-variants.{TakeSecond, Dead, LeaveFirst, Nothing}
-use Rattle.rules.specs.declared.Passed.{Passed}
 use Rattle.rules.specs.Tree.{Variant, live, dead}
 use Rattle.rules.specs.Identity.{Completion}
-use Rattle.rules.specs.Pairs.{Pair, pairAsked, ifAlive, ifChanged, passOn, pass, pairedBy, paired, withPairs, Each, Obeys, Paired}
+use Rattle.rules.specs.Pairs.{Pair, pairAsked, Passed, ifAlive, ifChanged, passOn, pass, pairedBy, paired, withPairs, Each, Obeys, Paired}
 use Rattle.node.proofs.Members.{not-so}
 use Rattle.rules.proofs.Plans.{Free, not-free}
 use Rattle.rules.proofs.Decide.{Decided, stays, decided-then, decided-le}

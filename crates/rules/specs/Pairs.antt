@@ -10,7 +10,6 @@ use Rattle.node.specs.Node.{isFree, isTaken, take, leave}
 use Rattle.rules.specs.declared.Forced.{Forced}
 use Rattle.rules.specs.declared.PairAsked.{PairAsked}
 use Rattle.rules.specs.declared.PairAsked.the-variants.{TakeSecond, Dead, LeaveFirst, Nothing}
-use Rattle.rules.specs.declared.Passed.{Passed}
 use Rattle.rules.specs.Tree.{Variant, settledWith, live, dead}
 
 pub record Pair : Type 0 where
@@ -37,6 +36,12 @@ pairAsked s q =
     (cond (isTaken s (q .first) && isOut s (q .second)) Dead
     (cond (isFree s (q .first) && isOut s (q .second)) LeaveFirst
     Nothing))
+
+-- a node when the pairs have been gone through, whether it is alive, and whether anything changed
+pub record Passed : Type 0 where
+  pub node : Node
+  pub alive : Bool
+  pub changed : Bool
 
 -- where forcing leaves a node alive, w on it
 abbrev pub ifAlive : Forced → (Node → Forced) → Forced

@@ -1,5 +1,5 @@
-//! The refusals of the pairs of columns (02, P8), with stated numbers: lists of lengths about the largest, a fault at each place of a list,
-//! and other faults beside them, which come first.
+//! The refusals of the pairs of columns (02, P8), with stated numbers: lists of lengths about the largest, a fault at each place of a
+//! list, and other faults beside them, which come first.
 
 use spp_tests::generate_pairs::MOST_PAIRS;
 use spp_tests::goal::Goal;
@@ -35,13 +35,14 @@ fn refuses(report: &mut Report, case: &Case, pairs: &[u16], wanted: u32) {
     report.same(&found.refusal, &wanted, || case.text());
 }
 
-/// So many numbers: columns from 1 on in turn, and from 1 on again after the last. Two that follow each other differ if there are two columns.
+/// So many numbers: the columns in turn, and again from the first on. Two that follow each other differ if there are two columns.
 fn in_turn(case: &Case, numbers: usize) -> Vec<u16> {
     let count = case.columns.costs.len();
     (0..numbers).map(|place| (place % count) as u16 + 1).collect()
 }
 
-/// Lists without a fault: none, the last column first, one pair as often as may be, and as many as may be. A file of one column has no pair.
+/// Lists without a fault: none, the last column first, one pair as often as may be, and as many as may be. A file of one column has
+/// no pair.
 fn legal_lists(report: &mut Report, case: &Case) {
     let count = case.columns.costs.len() as u16;
     refuses(report, case, &[], 0);

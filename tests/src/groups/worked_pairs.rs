@@ -1,6 +1,6 @@
-//! Searches with pairs of columns (02, P8) whose answers were worked out by hand from the text, node by node: each rule of the pairs decides
-//! some of them, and so does doing forcing and pairs again. Those of example 4 have the plans and prices worked out by hand, since it has
-//! three plans: 3 6 9 at 42 (longest duty 14), 2 5 10 at 46 (22) and 5 7 8 at 49 (24).
+//! Searches with pairs of columns (02, P8). The answers of small files were worked out by hand from the text, node by node: each rule of
+//! the pairs decides some of them, and so does doing forcing and pairs again. For example 4 the plans and prices were; it has three plans:
+//! 3 6 9 at 42 (longest duty 14), 2 5 10 at 46 (22) and 5 7 8 at 49 (24).
 
 use spp_tests::answers::Answer;
 use spp_tests::files::{self, columns, Columns};
@@ -13,7 +13,14 @@ use crate::report::Report;
 
 type Numbers = &'static [u16];
 
-fn search(name: &'static str, goal: Goal, columns: Columns, requests: Requests<'static>, answer: Answer, plan: Numbers) -> Search {
+fn search(
+    name: &'static str,
+    goal: Goal,
+    columns: Columns,
+    requests: Requests<'static>,
+    answer: Answer,
+    plan: Numbers,
+) -> Search {
     Search { goal, name, columns, requests, limit: LIMIT, answer, plan }
 }
 
@@ -53,7 +60,7 @@ fn second_taken() -> Vec<Search> {
         search("an agreed first", Longest, two_each(), agreed(&[1, 4]), best(3, 3, 1, 2), &[1, 4]),
         search("forcing takes the first", Sum, forced_first(), pairs(&[1, 3]), best(6, 6, 1, 2), &[1, 3]),
         search("forcing takes the first", Longest, forced_first(), pairs(&[1, 3]), best(5, 5, 1, 2), &[1, 3]),
-        // Node 2 takes 1 and then 3, so that it is a plan where two nodes more would be needed without the pairs.
+        // Node 2 takes 1 and then 3, and is a plan; without the pairs it branches.
         search("a ring", Sum, two_each(), pairs(&[1, 3, 3, 1]), best(3, 3, 2, 2), &[1, 3]),
         search("a ring", Longest, two_each(), pairs(&[1, 3, 3, 1]), best(2, 2, 2, 2), &[1, 3]),
         // Node 2 takes 3, which leaves 4 neither free nor taken.
@@ -62,13 +69,15 @@ fn second_taken() -> Vec<Search> {
     ]
 }
 
-/// The first is taken and the second neither free nor taken. With pair 1 2 node 2, which takes column 1, is dead; node 3 has column 2 forced
-/// at 8 above the floor and branches on column 3; node 4 is a plan.
+/// The first is taken and the second neither free nor taken. With pair 1 2 node 2, which takes column 1, is dead; node 3 has column 2
+/// forced at 8 above the floor and branches on column 3; node 4 is a plan.
 fn second_out() -> Vec<Search> {
     let beside = Requests { agreed: &[1], absent: &[3], pairs: &[1, 3] };
     vec![
         search("the second shares the first's sailing", Sum, two_each(), pairs(&[1, 2]), best(11, 3, 4, 2), &[2, 3]),
         search("the second shares the first's sailing", Longest, two_each(), pairs(&[1, 2]), best(9, 2, 4, 2), &[2, 3]),
+        // Node 2 is dead; node 3 has 2 forced, and the other pair takes 4.
+        search("dead, then forced and taken", Sum, two_each(), pairs(&[1, 2, 2, 4]), best(12, 3, 3, 2), &[2, 4]),
         // The root has column 1 taken and 4 forced, so no sailing is open, but it is no plan.
         search("an agreed first, its second absent", Sum, two_each(), beside, none(1), &[]),
         search("an agreed first, its second absent", Longest, two_each(), beside, none(1), &[]),
@@ -80,8 +89,8 @@ fn second_out() -> Vec<Search> {
     ]
 }
 
-/// The first is free and the second neither free nor taken. With 4 absent column 3 is forced and nothing else; with pair 1 4 column 1 stops
-/// being free, and forcing done again takes column 2: the root is a plan.
+/// The first is free and the second neither free nor taken. With 4 absent column 3 is forced and nothing else; with pair 1 4 column 1
+/// stops being free, and forcing done again takes column 2: the root is a plan.
 fn first_left() -> Vec<Search> {
     let absent = |absent, pairs| Requests { agreed: &[], absent, pairs };
     vec![
@@ -91,8 +100,6 @@ fn first_left() -> Vec<Search> {
         // Forcing done again finds no column for row 1.
         search("both of a sailing need an absent one", Sum, two_each(), absent(&[4], &[1, 4, 2, 4]), none(1), &[]),
         search("both of a sailing need an absent one", Longest, two_each(), absent(&[4], &[1, 4, 2, 4]), none(1), &[]),
-        // Pair 1 2 leaves 1 at the root; 2 is forced then, and 4 with it, by the pairs gone through again.
-        search("left, forced, taken", Sum, two_each(), absent(&[], &[1, 2, 2, 4]), best(12, 3, 3, 2), &[2, 4]),
     ]
 }
 
@@ -100,8 +107,11 @@ fn first_left() -> Vec<Search> {
 /// 6: a plan at 1 + 9 + 9. Node 3 has 2 forced, node 4 takes 3, node 5 takes 5: a plan at 9 + 1 + 1.
 fn done_again() -> Vec<Search> {
     let chain = pairs(&[4, 6, 1, 4]);
-    let case = |goal, limit, answer, plan| Search { limit, ..search("a chain", goal, three_each(), chain, answer, plan) };
-    let absent = Requests { agreed: &[], absent: &[6], pairs: &[1, 4, 3, 6, 4, 6] };
+    let case = |goal, limit, answer, plan| Search {
+        limit,
+        ..search("a chain against its sequence", goal, three_each(), chain, answer, plan)
+    };
+    let absent = |pairs| Requests { agreed: &[], absent: &[6], pairs };
     vec![
         case(Sum, LIMIT, best(11, 3, 5, 3), &[2, 3, 5]),
         case(Sum, 4, stopped_with(19, 3, 4, 3), &[1, 4, 6]),
@@ -111,7 +121,57 @@ fn done_again() -> Vec<Search> {
         case(Longest, LIMIT, best(9, 1, 2, 3), &[1, 4, 6]),
         case(Longest, 1, stopped(1, 1), &[]),
         // 5 is forced, 3 and 4 stop being free by the last two pairs, and row 2 has none.
-        search("a sailing is left without a duty", Sum, three_each(), absent, none(1), &[]),
+        search("a sailing is left without a duty", Sum, three_each(), absent(&[1, 4, 3, 6, 4, 6]), none(1), &[]),
+        // 5 is forced and 4 stops being free; again, 3 is forced and 1 stops being free; again, 2 is forced.
+        search("its end absent", Sum, three_each(), absent(&[1, 4, 4, 6]), best(11, 11, 1, 3), &[2, 3, 5]),
+        search("its end absent", Longest, three_each(), absent(&[1, 4, 4, 6]), best(9, 9, 1, 3), &[2, 3, 5]),
+    ]
+}
+
+/// A list that lasts as long as the program.
+fn lasting(numbers: impl Iterator<Item = u16>) -> Numbers {
+    numbers.collect::<Vec<u16>>().leak()
+}
+
+/// Two columns for each of 64 rows, the odd ones at 1 and the even ones at 3.
+fn two_for_each_row() -> Columns {
+    let bodies = (0..128).map(|column| vec![column / 2 + 1]).collect();
+    Columns { rows: 64, costs: [1, 3].repeat(64), bodies }
+}
+
+/// Four columns for each of 64 rows, columns 1 to 128 at 1 and the others at 2.
+fn four_for_each_row() -> Columns {
+    let bodies = (0..256).map(|column| vec![(column % 64) as u8 + 1]).collect();
+    Columns { rows: 64, costs: (0..256).map(|column| 1 + column / 128).collect(), bodies }
+}
+
+/// Roots at which each repetition does one step of a chain, and which are plans then.
+///
+/// In the first file each even column needs the next. With column 2 agreed and the last pair at the front, the pairs take one even column
+/// each time. With column 128 absent and the first pair at the front, column 127 is forced; then one even column stops being free each time,
+/// and the odd one beside it is forced.
+///
+/// In the second file each of columns 1 to 128 needs the next. With 129 absent, one of them stops being free each time, from 128 down to 1.
+/// With 194 to 256 absent too, rows 2 to 64 are left 130 to 192, and row 1 is left 193.
+fn long_chains() -> Vec<Search> {
+    let even = || (1..=64).map(|row| 2 * row);
+    let (all_even, all_odd, others) = (lasting(even()), lasting(even().map(|column| column - 1)), lasting(130..=193));
+    let needs_next = |column: u16, step: u16| [column, column + step];
+    let backwards = lasting(even().rev().skip(1).flat_map(|column| needs_next(column, 2)));
+    let forwards = lasting(even().take(63).flat_map(|column| needs_next(column, 2)));
+    let most = lasting((1..=128).flat_map(|column| needs_next(column, 1)));
+    let taking = Requests { agreed: &[2], absent: &[], pairs: backwards };
+    let leaving = Requests { agreed: &[], absent: &[128], pairs: forwards };
+    let leaving_most = Requests { agreed: &[], absent: lasting([129].into_iter().chain(194..=256)), pairs: most };
+    let case =
+        |name, goal, columns, requests, price, plan| search(name, goal, columns, requests, best(price, price, 1, 64), plan);
+    vec![
+        case("63 taken one by one", Sum, two_for_each_row(), taking, 192, all_even),
+        case("63 taken one by one", Longest, two_for_each_row(), taking, 3, all_even),
+        case("63 left one by one", Sum, two_for_each_row(), leaving, 64, all_odd),
+        case("63 left one by one", Longest, two_for_each_row(), leaving, 1, all_odd),
+        case("128 left one by one", Sum, four_for_each_row(), leaving_most, 128, others),
+        case("128 left one by one", Longest, four_for_each_row(), leaving_most, 2, others),
     ]
 }
 
@@ -120,12 +180,12 @@ fn fourth() -> Vec<Search> {
     let case = |goal, numbers, answer, plan| search("example 4", goal, files::example_4(), pairs(numbers), answer, plan);
     vec![
         case(Sum, &[3, 6, 6, 9, 9, 3], best(42, 39, 2, 3), &[3, 6, 9]),
-        case(Sum, &[3, 5], best(46, 39, 4, 3), &[2, 5, 10]),
-        case(Longest, &[3, 5], best(22, 18, 5, 3), &[2, 5, 10]),
-        case(Sum, &[3, 5, 5, 7], best(49, 39, 4, 3), &[5, 7, 8]),
-        case(Longest, &[3, 5, 5, 7], best(24, 18, 4, 3), &[5, 7, 8]),
+        case(Sum, &[3, 5], best(46, 39, 5, 3), &[2, 5, 10]),
+        case(Longest, &[3, 5], best(22, 14, 4, 3), &[2, 5, 10]),
+        case(Sum, &[3, 5, 5, 7], best(49, 39, 3, 3), &[5, 7, 8]),
+        case(Longest, &[3, 5, 5, 7], best(24, 14, 6, 3), &[5, 7, 8]),
         case(Sum, &[3, 5, 5, 7, 5, 2], none(3), &[]),
-        case(Longest, &[3, 5, 5, 7, 5, 2], none(3), &[]),
+        case(Longest, &[3, 5, 5, 7, 5, 2], none(5), &[]),
     ]
 }
 
@@ -142,7 +202,7 @@ fn refused(report: &mut Report) {
 
 pub fn run(report: &mut Report) {
     report.group("pairs: stated values, small files and example 4");
-    let groups = [second_taken(), second_out(), first_left(), done_again(), fourth()];
+    let groups = [second_taken(), second_out(), first_left(), done_again(), long_chains(), fourth()];
     groups.iter().flatten().for_each(|case| stated_search(report, case));
     refused(report);
 }

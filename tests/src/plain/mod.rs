@@ -16,7 +16,7 @@ mod uncrewed;
 pub use assign::assign;
 pub use desk::{counted, Recount};
 pub use file::{check, read, write};
-pub use reduce::reduce;
 pub use pairs::Uses;
+pub use reduce::reduce;
 pub use search::{search, search_with, tree, tree_with, Tree};
 pub use uncrewed::{trial, uncrewed};

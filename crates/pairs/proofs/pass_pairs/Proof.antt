@@ -12,10 +12,10 @@ use Rattle.pairs.proofs.pass_pairs.Statement.{statement}
 use Rattle.pairs.proofs.pass_pairs.Tie as tie
 
 abbrev Inv-loop : tie.InvT-loop
-Inv-loop goal matrix pairs s₀ changed₀ k₀ s changed k = Passing goal matrix pairs s₀ s changed k
+Inv-loop goal matrix pairs s₀ k₀ s k = Passing goal matrix pairs s₀ s k
 
 abbrev μ-loop : tie.MeasureT-loop
-μ-loop goal matrix pairs s₀ changed₀ k₀ s changed k = length pairs - k
+μ-loop goal matrix pairs s₀ k₀ s k = length pairs - k
 
 loop-holds : tie.Need-loop-holds Inv-loop μ-loop
 loop-holds c = passing-start _ _ _ _ (c .before .before .pre)
@@ -65,10 +65,14 @@ add-k : tie.Need-add-k Inv-loop μ-loop
 add-k c = omega arith
 
 element-copy-out-pair-asks : tie.Need-element-copy-out-pair-asks Inv-loop μ-loop
-element-copy-out-pair-asks c = let r = range (c .before .before) .0 in omega arith
+element-copy-out-pair-asks c =
+    let r = range (c .before .before) in
+    omega arith
 
 element-copy-out-pair-asks-2 : tie.Need-element-copy-out-pair-asks-2 Inv-loop μ-loop
-element-copy-out-pair-asks-2 c = let r = range (c .before .before .before) .1 in omega arith
+element-copy-out-pair-asks-2 c =
+    let r = range (c .before .before .before) in
+    omega arith
 
 pair-asks-requires : tie.Need-pair-asks-requires Inv-loop μ-loop
 pair-asks-requires c κs = search needs
@@ -86,7 +90,7 @@ takes c =
     let q = c .before .before in
     let l = q .before .before .before .before .before in
     let n = l .before in
-    passing-takes _ _ _ _ _ _ _ (n .loop .inv) (l .loop-test .taken) _ (q .pair-asks .ensures) (n .before .before .before .pre .fits) (c .enum-told .given .1)
+    passing-takes _ _ _ _ _ _ (n .loop .inv) (l .loop-test .taken) _ (q .pair-asks .ensures) (n .before .before .before .pre .fits) (c .enum-told .given .1)
 
 mul-join : tie.Need-mul-join Inv-loop μ-loop
 mul-join c = omega (arith, takes-low _ _ _ _ (takes c))
@@ -109,7 +113,7 @@ loop-again c =
     let q = e .before .before in
     let l = q .before .before .before .before .before in
     let n = l .before in
-    passing-taken _ _ _ _ _ _ _ (n .loop .inv) (l .loop-test .taken) _ (q .pair-asks .ensures) (n .before .before .before .pre .fits)
+    passing-taken _ _ _ _ _ _ (n .loop .inv) (l .loop-test .taken) _ (q .pair-asks .ensures) (n .before .before .before .pre .fits)
     (e .enum-told .given .1) _ (takes-is _ _ _ _ (takes e) _ (c .before .join .ensures) _ (c .take .ensures))
 
 enum-told-2 : tie.Need-enum-told-2 Inv-loop μ-loop
@@ -119,7 +123,7 @@ returns : tie.Need-returns Inv-loop μ-loop
 returns c =
     let q = c .before .before in
     let l = q .before .before .before .before .before in
-    passing-dead _ _ _ _ _ _ _ (l .before .loop .inv) (l .loop-test .taken) _ (q .pair-asks .ensures) (c .enum-told2 .given .1)
+    passing-dead _ _ _ _ _ _ (l .before .loop .inv) (l .loop-test .taken) _ (q .pair-asks .ensures) (c .enum-told2 .given .1)
 
 enum-told-3 : tie.Need-enum-told-3 Inv-loop μ-loop
 enum-told-3 c = search needs
@@ -138,7 +142,7 @@ loop-again-2 c =
     let q = e .before .before in
     let l = q .before .before .before .before .before in
     let n = l .before in
-    passing-leaves _ _ _ _ _ _ _ (n .loop .inv) (l .loop-test .taken) _ (q .pair-asks .ensures) (n .before .before .before .pre .fits)
+    passing-leaves _ _ _ _ _ _ (n .loop .inv) (l .loop-test .taken) _ (q .pair-asks .ensures) (n .before .before .before .pre .fits)
     (e .enum-told3 .given .1) _ (c .leave .ensures)
 
 enum-told-4 : tie.Need-enum-told-4 Inv-loop μ-loop
@@ -151,10 +155,10 @@ loop-again-3 : tie.Need-loop-again-3 Inv-loop μ-loop
 loop-again-3 c =
     let q = c .before .before in
     let l = q .before .before .before .before .before in
-    passing-nothing _ _ _ _ _ _ _ (l .before .loop .inv) (l .loop-test .taken) _ (q .pair-asks .ensures) (c .enum-told4 .given .1)
+    passing-nothing _ _ _ _ _ _ (l .before .loop .inv) (l .loop-test .taken) _ (q .pair-asks .ensures) (c .enum-told4 .given .1)
 
 returns-2 : tie.Need-returns-2 Inv-loop μ-loop
-returns-2 c = passing-end _ _ _ _ _ _ _ (c .before .loop .inv) (c .loop-test .left)
+returns-2 c = passing-end _ _ _ _ _ _ (c .before .loop .inv) (c .loop-test .left)
 
 pub pass-pairs-spec : {M : Type 1} → statement M
 pass-pairs-spec =

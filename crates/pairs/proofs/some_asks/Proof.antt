@@ -60,10 +60,14 @@ add-k : tie.Need-add-k Inv-loop μ-loop
 add-k c = omega arith
 
 element-copy-out-pair-asks : tie.Need-element-copy-out-pair-asks Inv-loop μ-loop
-element-copy-out-pair-asks c = let r = range (c .before .before) .0 in omega arith
+element-copy-out-pair-asks c =
+    let r = range (c .before .before) in
+    omega arith
 
 element-copy-out-pair-asks-2 : tie.Need-element-copy-out-pair-asks-2 Inv-loop μ-loop
-element-copy-out-pair-asks-2 c = let r = range (c .before .before .before) .1 in omega arith
+element-copy-out-pair-asks-2 c =
+    let r = range (c .before .before .before) in
+    omega arith
 
 pair-asks-requires : tie.Need-pair-asks-requires Inv-loop μ-loop
 pair-asks-requires c κs = search needs

@@ -5,7 +5,9 @@ use std::alloc::{alloc, dealloc, Layout};
 use std::ffi::c_void;
 
 use spp_tests::files::{self, Columns};
+use spp_tests::generate_pairs::MOST_PAIRS;
 use spp_tests::goal::Goal;
+use spp_tests::requests::Requests;
 use spp_tests::{engine, plain};
 
 const SIZE: usize = 64 << 20;
@@ -35,17 +37,24 @@ extern "C" fn nothing(_: *mut c_void) -> *mut c_void {
 struct Task {
     goal: Goal,
     file: Vec<u8>,
+    pairs: Vec<u16>,
+}
+
+impl Task {
+    fn requests(&self) -> Requests<'_> {
+        Requests { pairs: &self.pairs, ..Requests::NONE }
+    }
 }
 
 extern "C" fn search_by_engine(task: *mut c_void) -> *mut c_void {
     let (task, mut plan) = (unsafe { &*(task as *const Task) }, [0; 64]);
-    engine::search(task.goal, &task.file, LIMIT, &mut plan);
+    engine::search_with(task.goal, &task.file, LIMIT, task.requests(), &mut plan);
     std::ptr::null_mut()
 }
 
 extern "C" fn search_by_plain(task: *mut c_void) -> *mut c_void {
     let (task, mut plan) = (unsafe { &*(task as *const Task) }, [0; 64]);
-    plain::search(task.goal, &task.file, LIMIT, &mut plan);
+    plain::search_with(task.goal, &task.file, LIMIT, task.requests(), &mut plan);
     std::ptr::null_mut()
 }
 
@@ -88,9 +97,9 @@ pub fn of_call<T>(by_engine: Start, by_plain: Start, task: &T) {
 }
 
 /// Prints a line; gives how far its runs differ.
-fn line(goal: Goal, name: &str, columns: &Columns) -> usize {
-    let task = Task { goal, file: columns.file() };
-    let depth = plain::tree(goal, &task.file, LIMIT).expect("the file is accepted").deepest;
+fn line(goal: Goal, name: &str, columns: &Columns, pairs: &[u16]) -> usize {
+    let task = Task { goal, file: columns.file(), pairs: pairs.to_vec() };
+    let depth = plain::tree_with(goal, &task.file, LIMIT, task.requests()).expect("the file is accepted").deepest;
     let (engine, differ) = most_used(search_by_engine, &task);
     let (base, base_differ) = most_used(search_by_plain, &task);
     let kib = |bytes: usize| bytes as f64 / 1024.0;
@@ -105,11 +114,12 @@ pub fn table() {
     println!("| file | goal | nodes on the longest path | engine, KiB | engine, bytes for each node on the path | (a), KiB |");
     println!("|---|---|---|---|---|---|");
     let files = [
-        ("one duty", files::columns(1, &[(&[1], 5)])),
-        ("example 4", files::example_4()),
-        ("17 sailings, 256 duties of all sailings but one", files::deepest()),
+        ("one duty", files::columns(1, &[(&[1], 5)]), vec![]),
+        ("example 4", files::example_4(), vec![]),
+        ("17 sailings, 256 duties of all sailings but one", files::deepest(), vec![]),
+        ("the same with 128 pairs", files::deepest(), [255, 256].repeat(MOST_PAIRS)),
     ];
-    let both = |(name, columns): &(&str, Columns)| Goal::BOTH.map(|goal| line(goal, name, columns));
+    let both = |(name, columns, pairs): &(&str, Columns, Vec<u16>)| Goal::BOTH.map(|goal| line(goal, name, columns, pairs));
     let most = files.iter().flat_map(both).max().unwrap_or(0);
     println!("\nThe largest of {REPEATS} runs of each; the runs of one search differ by {most} bytes at most.\n");
 }
