@@ -113,10 +113,6 @@ pub fn force_with(goal: Goal, mut s: Node, matrix: &[u16], side: &[u16]) -> Forc
                     alive: false,
                 };
             }
-            Asked::Take(j) => {
-                let bound = join(goal, s.bound, s.cost[j]);
-                s = s.take(j, bound, matrix);
-            }
             Asked::Settled => {
                 if !some_asks(&s.column, side) {
                     return Forced {
@@ -132,6 +128,10 @@ pub fn force_with(goal: Goal, mut s: Node, matrix: &[u16], side: &[u16]) -> Forc
                         alive: false,
                     };
                 }
+            }
+            Asked::Take(j) => {
+                let bound = join(goal, s.bound, s.cost[j]);
+                s = s.take(j, bound, matrix);
             }
         }
     }

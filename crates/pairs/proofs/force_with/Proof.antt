@@ -33,44 +33,6 @@ returns c =
     let a = c .before .before in
     settling-dead _ _ _ _ _ (a .before .before .before .before .loop .inv) _ (a .open-rows-ask .ensures) (c .enum-told .given .1)
 
-enum-known-found : tie.Need-enum-known-found Inv-loop μ-loop
-enum-known-found c = search needs
-
--- column j of a workable node is forced: it can be taken
-takes : (c : tie.After-known-told Inv-loop μ-loop) →
-    let n = c .before .before .before .before .before .before .before in
-    let a = n .before .before .before .args in
-    Takes (a .goal) (a .matrix .now) (n .loop .s) (c .before .found .given .0 .0)
-takes c =
-    let a = c .before .before .before in
-    settling-takes _ _ _ _ _ (a .before .before .before .before .loop .inv) _ (a .open-rows-ask .ensures) _ (c .before .found .given .1)
-
-mul-join : tie.Need-mul-join Inv-loop μ-loop
-mul-join c = omega (arith, takes-low _ _ _ _ (takes c))
-
-element-copy-out-join : tie.Need-element-copy-out-join Inv-loop μ-loop
-element-copy-out-join c = takes-low _ _ _ _ (takes c)
-
-join-requires : tie.Need-join-requires Inv-loop μ-loop
-join-requires c κs = takes-room _ _ _ _ (takes (c .before))
-
-take-requires : tie.Need-take-requires Inv-loop μ-loop
-take-requires c κs = takes-column _ _ _ _ (takes (c .before .before))
-
-loop-less : tie.Need-loop-less Inv-loop μ-loop
-loop-less c =
-    let k = c .before .before .before in
-    let a = k .before .before .before in
-    settling-less _ _ _ _ _ (a .before .before .before .before .loop .inv) _ (a .open-rows-ask .ensures) _ (k .before .found .given .1) _
-    (takes-is _ _ _ _ (takes k) _ (c .before .join .ensures) _ (c .take .ensures))
-
-loop-again : tie.Need-loop-again Inv-loop μ-loop
-loop-again c =
-    let k = c .before .before .before in
-    let a = k .before .before .before in
-    settling-taken _ _ _ _ _ (a .before .before .before .before .loop .inv) _ (a .open-rows-ask .ensures) _ (k .before .found .given .1) _
-    (takes-is _ _ _ _ (takes k) _ (c .before .join .ensures) _ (c .take .ensures))
-
 enum-told-2 : tie.Need-enum-told-2 Inv-loop μ-loop
 enum-told-2 c = search needs
 
@@ -98,8 +60,8 @@ returns-3 c =
     let w = a .before .before .before .before .loop .inv in
     settling-ends _ _ _ _ _ w _ (a .open-rows-ask .ensures) (e .enum-told2 .given .1) _ (q .pass-pairs .ensures) (not-true _ (c .if2 .taken))
 
-loop-less-2 : tie.Need-loop-less-2 Inv-loop μ-loop
-loop-less-2 c =
+loop-less : tie.Need-loop-less Inv-loop μ-loop
+loop-less c =
     let q = c .before .before .before in
     let e = q .before .before .before .before .before in
     let a = e .before .before in
@@ -107,14 +69,52 @@ loop-less-2 c =
     settling-fewer _ _ _ _ _ w _ (a .open-rows-ask .ensures) (e .enum-told2 .given .1) _ (q .pass-pairs .ensures)
     (sym (q .before .before .some-asks .ensures) ∙ not-false _ (q .before .if1 .left)) (not-false _ (c .if2 .left))
 
-loop-again-2 : tie.Need-loop-again-2 Inv-loop μ-loop
-loop-again-2 c =
+loop-again : tie.Need-loop-again Inv-loop μ-loop
+loop-again c =
     let q = c .before .before .before in
     let e = q .before .before .before .before .before in
     let a = e .before .before in
     let w = a .before .before .before .before .loop .inv in
     settling-next _ _ _ _ _ w _ (a .open-rows-ask .ensures) (e .enum-told2 .given .1) _ (q .pass-pairs .ensures)
     (sym (q .before .before .some-asks .ensures) ∙ not-false _ (q .before .if1 .left)) (not-false _ (c .if2 .left))
+
+enum-known-found : tie.Need-enum-known-found Inv-loop μ-loop
+enum-known-found c = search needs
+
+-- column j of a workable node is forced: it can be taken
+takes : (c : tie.After-known-told Inv-loop μ-loop) →
+    let n = c .before .before .before .before .before .before .before in
+    let a = n .before .before .before .args in
+    Takes (a .goal) (a .matrix .now) (n .loop .s) (c .before .found .given .0 .0)
+takes c =
+    let a = c .before .before .before in
+    settling-takes _ _ _ _ _ (a .before .before .before .before .loop .inv) _ (a .open-rows-ask .ensures) _ (c .before .found .given .1)
+
+mul-join : tie.Need-mul-join Inv-loop μ-loop
+mul-join c = omega (arith, takes-low _ _ _ _ (takes c))
+
+element-copy-out-join : tie.Need-element-copy-out-join Inv-loop μ-loop
+element-copy-out-join c = takes-low _ _ _ _ (takes c)
+
+join-requires : tie.Need-join-requires Inv-loop μ-loop
+join-requires c κs = takes-room _ _ _ _ (takes (c .before))
+
+take-requires : tie.Need-take-requires Inv-loop μ-loop
+take-requires c κs = takes-column _ _ _ _ (takes (c .before .before))
+
+loop-less-2 : tie.Need-loop-less-2 Inv-loop μ-loop
+loop-less-2 c =
+    let k = c .before .before .before in
+    let a = k .before .before .before in
+    settling-less _ _ _ _ _ (a .before .before .before .before .loop .inv) _ (a .open-rows-ask .ensures) _ (k .before .found .given .1) _
+    (takes-is _ _ _ _ (takes k) _ (c .before .join .ensures) _ (c .take .ensures))
+
+loop-again-2 : tie.Need-loop-again-2 Inv-loop μ-loop
+loop-again-2 c =
+    let k = c .before .before .before in
+    let a = k .before .before .before in
+    settling-taken _ _ _ _ _ (a .before .before .before .before .loop .inv) _ (a .open-rows-ask .ensures) _ (k .before .found .given .1) _
+    (takes-is _ _ _ _ (takes k) _ (c .before .join .ensures) _ (c .take .ensures))
 
 pub force-with-spec : {M : Type 1} → statement M
 force-with-spec =
@@ -126,17 +126,17 @@ force-with-spec =
     open-rows-ask-requires
     enum-told
     returns
-    enum-known-found
-    mul-join
-    element-copy-out-join
-    join-requires
-    take-requires
-    loop-less
-    loop-again
     enum-told-2
     some-asks-requires
     returns-2
     pass-pairs-requires
     returns-3
+    loop-less
+    loop-again
+    enum-known-found
+    mul-join
+    element-copy-out-join
+    join-requires
+    take-requires
     loop-less-2
     loop-again-2)
