@@ -15,7 +15,6 @@ use Rattle.node.specs.Stored.{FitsNode}
 use Rattle.node.specs.Node.{isFree, isTaken, costAt, freeColumns, freeOf, openRows, taken, root, take, leave}
 use Rattle.rules.specs.Reduce.{leastOf}
 use Rattle.rules.specs.declared.Forced.{Forced}
-use Rattle.rules.specs.Force.{force}
 use Rattle.rules.specs.Search.{Incumbent, nothing}
 use Rattle.rules.specs.Tree.{Variant, settledWith, live, zeros, dearer, penalty, rowBefore, sharing, columnBefore, branchOn, reduced, living, visit, fullTree, rootBound, answer}
 use Rattle.rules.specs.Identity.{Completion}

@@ -207,25 +207,40 @@ module _ (p : Matrix) (F : FitsNode p) (o : Variant) (Ok : (ℕ → Bool) → Ty
     abbrev after : (Node → Forced) → Node → Forced
     after w t = ifChanged (pass (o .join) p qs t false) w
 
+    -- a good node forced, and the pairs then gone through
+    module _ (s : Node) (g : Good s) where
+      f : Forces p Ok Good s (o .settle s)
+      f = S .forcing s g
+
+      abbrev t : Node
+      t = o .settle s .node
+
+      abbrev r : Passed
+      r = pass (o .join) p qs t false
+
+      round-forces : (w : Node → Forced) → ((u : Node) → Good u → size p u < size p s → Forces p (Paired Ok qs) Good u (w u))
+          → Forces p (Paired Ok qs) Good s (ifAlive (o .settle s) (after w))
+      round-forces w q =
+          alive-forces s (o .settle s) f (o .settle s .alive) refl (after w)
+          (λ k. changed-forces t k r (passes qs i t (f .good) false) (r .alive) (r .changed) refl refl w
+          (λ u h m. q u h (omega (arith, decided-le p s t (f .decides)))))
+
+      round-same : (w u : Node → Forced) → ((v : Node) → Good v → size p v < size p s → w v ≡ u v)
+          → ifAlive (o .settle s) (after w) ≡ ifAlive (o .settle s) (after u)
+      round-same w u q = go (o .settle s .alive) (r .alive) (r .changed) refl
+        where
+          go : (a b c : Bool) → r .changed ≡ c
+              → cond a (cond b (cond c (w (r .node)) (live (r .node))) (dead (r .node))) (dead t)
+              ≡ cond a (cond b (cond c (u (r .node)) (live (r .node))) (dead (r .node))) (dead t)
+          go false b c e = refl
+          go true false c e = refl
+          go true true true e = q (r .node) (pass-good t (f .good)) (omega (arith, pass-fewer t (f .good) e, decided-le p s t (f .decides)))
+          go true true false e = refl
+
     paired-by : (n : ℕ) (s : Node) → Good s → size p s < n → Forces p (Paired Ok qs) Good s (by n s)
     unfolding pairedBy
     paired-by zero s g l = absurd (omega arith)
-    paired-by (suc n) s g l = go (λ t h m. paired-by n t h m)
-      where
-        f : Forces p Ok Good s (o .settle s)
-        f = S .forcing s g
-
-        t : Node
-        t = o .settle s .node
-
-        r : Passed
-        r = pass (o .join) p qs t false
-
-        go : ((u : Node) → Good u → size p u < n → Forces p (Paired Ok qs) Good u (by n u)) → Forces p (Paired Ok qs) Good s (by (suc n) s)
-        go w =
-            alive-forces s (o .settle s) f (o .settle s .alive) refl (after (by n))
-            (λ k. changed-forces t k r (passes qs i t (f .good) false) (r .alive) (r .changed) refl refl (by n)
-            (λ u h m. w u h (omega (arith, decided-le p s t (f .decides)))))
+    paired-by (suc n) s g l = round-forces s g (by n) (λ u h m. paired-by n u h (omega arith))
 
     pub paired-forces : (s : Node) → Good s → Forces p (Paired Ok qs) Good s (paired (o .join) p (o .settle) qs s)
     unfolding paired
@@ -243,38 +258,17 @@ module _ (p : Matrix) (F : FitsNode p) (o : Variant) (Ok : (ℕ → Bool) → Ty
     }
 
     -- the fuel does not matter: settling is forcing, the pairs, and settling again if anything changed
-    step-same : (s : Node) → Good s → (w u : Node → Forced) → ((t : Node) → Good t → size p t < size p s → w t ≡ u t)
-        → ifAlive (o .settle s) (after w) ≡ ifAlive (o .settle s) (after u)
-    step-same s g w u q = go (o .settle s .alive) (r .alive) (r .changed) refl
-      where
-        f : Forces p Ok Good s (o .settle s)
-        f = S .forcing s g
-
-        t : Node
-        t = o .settle s .node
-
-        r : Passed
-        r = pass (o .join) p qs t false
-
-        go : (a b c : Bool) → r .changed ≡ c
-            → cond a (cond b (cond c (w (r .node)) (live (r .node))) (dead (r .node))) (dead t)
-            ≡ cond a (cond b (cond c (u (r .node)) (live (r .node))) (dead (r .node))) (dead t)
-        go false b c e = refl
-        go true false c e = refl
-        go true true true e = q (r .node) (pass-good t (f .good)) (omega (arith, pass-fewer t (f .good) e, decided-le p s t (f .decides)))
-        go true true false e = refl
-
     paired-same : (f h : ℕ) (s : Node) → Good s → size p s < f → size p s < h → by f s ≡ by h s
     unfolding pairedBy
     paired-same zero h s g l m = absurd (omega arith)
     paired-same (suc f) zero s g l m = absurd (omega arith)
-    paired-same (suc f) (suc h) s g l m = step-same s g (by f) (by h) (λ t k n. paired-same f h t k (omega arith) (omega arith))
+    paired-same (suc f) (suc h) s g l m = round-same s g (by f) (by h) (λ t k n. paired-same f h t k (omega arith) (omega arith))
 
     pub paired-step : (s : Node) → Good s → paired (o .join) p (o .settle) qs s
         ≡ ifAlive (o .settle s) (λ t. ifChanged (pass (o .join) p qs t false) (paired (o .join) p (o .settle) qs))
     unfolding paired pairedBy
     paired-step s g =
-        step-same s g (by (width p)) (paired (o .join) p (o .settle) qs)
+        round-same s g (by (width p)) (paired (o .join) p (o .settle) qs)
         (λ t k n. paired-same (width p) (suc (width p)) t k (omega (arith, size-fits p s)) (size-fits p t))
 
 -- of the laws, those that speak of settling are its own

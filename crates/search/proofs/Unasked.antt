@@ -7,7 +7,6 @@ use Rattle.refusals.specs.Refusals.{Fault, fine, fault, ask, _then_}
 use Rattle.node.specs.Matrix.{Matrix, Instance}
 use Rattle.node.specs.Node.{root}
 use Rattle.rules.specs.declared.Forced.{Forced}
-use Rattle.rules.specs.Search.{Answer, shownBy}
 use Rattle.rules.specs.Tree.{Variant, sum, live, answer}
 use Rattle.rules.specs.Longest.{longest}
 use Rattle.rules.specs.Pairs.{pairsOf}
@@ -16,7 +15,6 @@ use Rattle.rules.proofs.Agreed.{agreed-none}
 use Rattle.rules.proofs.Pairs.{paired-none}
 use Rattle.dutyfile.specs.File.{parse, instance, shape}
 use Rattle.dutyfile.specs.Faults.{rising, fileFault}
-use Rattle.answer.specs.Answer.{planNumbers}
 use Rattle.search.specs.Searching.{callFault, fileAnswer, searching, planList}
 use Rattle.search.specs.Longest.{longestAnswer, longestSearching, longestList}
 use Rattle.search.specs.Agreed.{agreedFault, agreedAnswer, agreedSearching, agreedList}

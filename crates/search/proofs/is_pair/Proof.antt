@@ -1,6 +1,5 @@
 -- Each way out of the tests is one way out of the definition.
 use borrow.Author.Tests.{le-leb, lt-leb}
-use borrow.Author.Needs.{needs}
 use Rattle.search.proofs.is_pair.Statement.{statement}
 use Rattle.search.proofs.is_pair.Tie as tie
 
