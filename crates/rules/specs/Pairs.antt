@@ -12,6 +12,7 @@ use Rattle.rules.specs.declared.PairAsked.{PairAsked}
 use Rattle.rules.specs.declared.PairAsked.the-variants.{TakeSecond, Dead, LeaveFirst, Nothing}
 use Rattle.rules.specs.Tree.{Variant, settledWith, live, dead}
 
+-- two columns (02: duties), of which the first needs the second
 pub record Pair : Type 0 where
   pub first : ℕ
   pub second : ℕ
