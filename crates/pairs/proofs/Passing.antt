@@ -7,7 +7,8 @@ use native.Mathlib.Omega.{arith}
 use lib.ListN.{length, getD, drop}
 use Rattle.node.specs.declared.Node.{Node}
 use Rattle.node.specs.Matrix.{Matrix}
-use Rattle.node.specs.Node.{mark, take, leave}
+use Rattle.node.specs.Node.{take, leave}
+use Rattle.node.specs.View.{view}
 use Rattle.node.specs.Stored.{matrixIn}
 use Rattle.rules.specs.declared.Goal.{Goal}
 use Rattle.rules.specs.declared.PairAsked.{PairAsked}
@@ -18,15 +19,22 @@ use Rattle.rules.specs.Pairs.{Pair, pair, Passed, pairsOf, pairAsked, passOn, p
 use Rattle.rules.proofs.Plans.{Free}
 use Rattle.rules.proofs.Goals.{WorkableFor, goal-steps}
 use Rattle.rules.proofs.Pairs.{asked-why}
-use Rattle.rules.proofs.Numbers.{drop-two, drop-few}
+use Rattle.rules.proofs.Numbers.{Numbers, drop-two, drop-few}
 use Rattle.rules.proofs.Sides.{SideFits, WorkableWith}
 use Rattle.goals.specs.Taking.{Takes}
-use Rattle.pairs.specs.Asks.{askedBy, asks, someAsks, nodeAfter}
+use Rattle.pairs.specs.Asks.{asks, someAsks, nodeAfter}
 
--- what a pair asks depends on the marks of its columns alone
-pub pair-marks : (s : Node) (q : Pair) → askedBy (mark s (q .first)) (mark s (q .second)) ≡ pairAsked s q
-unfolding askedBy pairAsked
+-- what a pair asks depends on the marks of columns alone
+pub pair-marks : (s : Node) (q : Pair) → pairAsked (view [] (s .column) []) q ≡ pairAsked s q
+unfolding pairAsked
 pair-marks s q = refl
+
+-- the numbers of the pair at a place are from 1 to 256
+abbrev pub InRange : List ℕ → ℕ → Type 0
+InRange ns k = ((1 ≤ getD ns k 0) × (getD ns k 0 ≤ 256)) × ((1 ≤ getD ns (k + 1) 0) × (getD ns (k + 1) 0 ≤ 256))
+
+pub in-range : (ns : List ℕ) (k : ℕ) → Numbers 256 ns → k + 1 < length ns → InRange ns k
+in-range ns k h l = (h k (omega arith), h (k + 1) l)
 
 -- the pairs of a list from place k on
 abbrev rest : List ℕ → ℕ → List Pair
@@ -52,7 +60,7 @@ pub looking-start : (marks ns : List ℕ) → Looking marks ns 0
 looking-start marks ns = record { low = omega arith; left = refl }
 
 module _ (marks ns : List ℕ) (k : ℕ) (w : Looking marks ns k) where
-  module _ (l : k + 1 < length ns) (found : PairAsked) (told : found ≡ askedBy (getD marks (getD ns k 0 - 1) 0) (getD marks (getD ns (k + 1) 0 - 1) 0)) where
+  module _ (l : k + 1 < length ns) (found : PairAsked) (told : found ≡ pairAsked (view [] marks []) (at ns k)) where
     step : (b : Bool) → asks found ≡ b → (b || someAsks marks (rest ns (k + 2))) ≡ someAsks marks (pairsOf ns)
     unfolding someAsks
     step b e = rw (← e, told) (sym (ap (someAsks marks) (rest-step ns k l)) ∙ w .left)
@@ -92,7 +100,7 @@ module _ (g : Goal) (l ns : List ℕ) (s₀ s : Node) (k : ℕ) (w : Passing g l
   whole = pass (searchFor g (matrixIn l) .join) (matrixIn l) (pairsOf ns) s₀ false
 
   module _ (within : k + 1 < length ns) (found : PairAsked)
-      (told : found ≡ askedBy (mark s (getD ns k 0 - 1)) (mark s (getD ns (k + 1) 0 - 1))) where
+      (told : found ≡ pairAsked (view [] (s .column) []) (at ns k)) where
     is : found ≡ pairAsked s (at ns k)
     is = told ∙ pair-marks s (at ns k)
 

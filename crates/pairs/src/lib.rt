@@ -8,25 +8,31 @@ use rules::Goal;
 use rules::PairAsked;
 ghost use mathlib.Core.Path.{_≡_};
 ghost use mathlib.Core.Bool.{false};
+ghost use mathlib.Core.List.{[]};
+ghost use Prim.Native.Nat.{_<_};
 ghost use Rattle.node.specs.Matrix.{Matrix};
+ghost use Rattle.node.specs.View.{view};
 ghost use Rattle.node.specs.Stored.{matrixIn};
 ghost use Rattle.rules.specs.Goals.{searchFor, searchWith};
-ghost use Rattle.rules.specs.Pairs.{pairsOf, pass};
+ghost use Rattle.rules.specs.Pairs.{pair, pairsOf, pairAsked, pass};
 ghost use Rattle.rules.proofs.Numbers.{Numbers};
 ghost use Rattle.rules.proofs.Sides.{WorkableWith};
-ghost use Rattle.pairs.specs.Asks.{askedBy, asks, someAsks, nodeAfter};
+ghost use Rattle.pairs.specs.Asks.{asks, someAsks, nodeAfter};
 
-// What a pair asks of a node, by the marks of its first and its second column: 1 free, 2 taken.
-fn pair_asks(first: u8, second: u8) -> PairAsked
-    ensures { λ r. ⌜ r ≡ askedBy first second ⌝ }
+// What a pair asks of a node with these marks: 1 free, 2 taken.
+fn pair_asks(column: &[u8; 256], first: usize, second: usize) -> PairAsked
+    requires { ⌜ (first < 256) × (second < 256) ⌝ }
+    ensures { λ r. ⌜ r ≡ pairAsked (view [] (now (column .entry)) []) (pair first second) ⌝ }
 {
-    match first {
-        2 => match second {
+    let a = column[first];
+    let b = column[second];
+    match a {
+        2 => match b {
             1 => PairAsked::TakeSecond,
             2 => PairAsked::Nothing,
             _ => PairAsked::Dead,
         },
-        1 => match second {
+        1 => match b {
             1 => PairAsked::Nothing,
             2 => PairAsked::Nothing,
             _ => PairAsked::LeaveFirst,
@@ -57,7 +63,7 @@ fn some_asks(column: &[u8; 256], pairs: &[u16]) -> bool
         let first = pairs[k] as usize - 1;
         let second = pairs[k + 1] as usize - 1;
         k += 2;
-        let asked = pair_asks(column[first], column[second]);
+        let asked = pair_asks(column, first, second);
         if is_asked(asked) {
             return true;
         }
@@ -75,7 +81,7 @@ fn pass_pairs(goal: Goal, mut s: Node, matrix: &[u16], pairs: &[u16]) -> Forced
         let first = pairs[k] as usize - 1;
         let second = pairs[k + 1] as usize - 1;
         k += 2;
-        let asked = pair_asks(s.column[first], s.column[second]);
+        let asked = pair_asks(&s.column, first, second);
         match asked {
             PairAsked::TakeSecond => {
                 let bound = join(goal, s.bound, s.cost[second]);

@@ -1,12 +1,12 @@
 -- The pairs that are left to be gone through give what all of them give.
-use Prim.Native.Nat.{ℕ, _+_, _-_, _≤_}
+use Prim.Native.Nat.{_+_, _-_}
 use native.Mathlib.Omega.{arith}
 use lib.ListN.{length, getD}
 use borrow.Author.Needs.{needs}
 use Rattle.rules.proofs.Numbers.{numbers-low}
 use Rattle.goals.specs.Taking.{Takes}
 use Rattle.goals.proofs.Taking.{takes-room, takes-column, takes-low, takes-is}
-use Rattle.pairs.proofs.Passing.{Passing, passing-start, passing-dead, passing-nothing, passing-leaves, passing-takes, passing-taken}
+use Rattle.pairs.proofs.Passing.{InRange, in-range, Passing, passing-start, passing-dead, passing-nothing, passing-leaves, passing-takes, passing-taken}
 use Rattle.pairs.proofs.Passing.{passing-end}
 use Rattle.pairs.proofs.pass_pairs.Statement.{statement}
 use Rattle.pairs.proofs.pass_pairs.Tie as tie
@@ -29,16 +29,11 @@ mul-first c = omega arith
 shared-slice-read-first : tie.Need-shared-slice-read-first Inv-loop μ-loop
 shared-slice-read-first c = omega arith
 
--- the numbers of a pair are from 1 to 256
-range : (c : tie.In-loop Inv-loop μ-loop) →
-    let ns = c .before .before .before .before .args .pairs .now in
-    let k = c .before .loop .k in
-    ((1 ≤ getD ns k 0) × (getD ns k 0 ≤ 256)) × ((1 ≤ getD ns (k + 1) 0) × (getD ns (k + 1) 0 ≤ 256))
+range : (c : tie.In-loop Inv-loop μ-loop) → InRange (c .before .before .before .before .args .pairs .now) (c .before .loop .k)
 range c =
     let a = c .before .before .before .before in
-    let k : ℕ = c .before .loop .k in
-    let low = numbers-low _ (a .args .pairs .now) (a .pre .fits) (a .pre .some .kept .small .fits .wide) in
-    (low k (omega (arith, c .loop-test .taken)), low (k + 1) (c .loop-test .taken))
+    let ns = a .args .pairs .now in
+    in-range ns (c .before .loop .k) (numbers-low _ ns (a .pre .fits) (a .pre .some .kept .small .fits .wide)) (c .loop-test .taken)
 
 cast-first : tie.Need-cast-first Inv-loop μ-loop
 cast-first c = omega (arith, range (c .before) .0 .1)
@@ -64,18 +59,10 @@ sub-second c = range (c .before .before) .1 .0
 add-k : tie.Need-add-k Inv-loop μ-loop
 add-k c = omega arith
 
-element-copy-out-pair-asks : tie.Need-element-copy-out-pair-asks Inv-loop μ-loop
-element-copy-out-pair-asks c =
-    let r = range (c .before .before) in
-    omega arith
-
-element-copy-out-pair-asks-2 : tie.Need-element-copy-out-pair-asks-2 Inv-loop μ-loop
-element-copy-out-pair-asks-2 c =
-    let r = range (c .before .before .before) in
-    omega arith
-
 pair-asks-requires : tie.Need-pair-asks-requires Inv-loop μ-loop
-pair-asks-requires c κs = search needs
+pair-asks-requires c κs =
+    let r = range (c .before .before .before .before) in
+    (omega arith, omega arith)
 
 enum-told : tie.Need-enum-told Inv-loop μ-loop
 enum-told c = search needs
@@ -178,8 +165,6 @@ pass-pairs-spec =
     cast-second
     sub-second
     add-k
-    element-copy-out-pair-asks
-    element-copy-out-pair-asks-2
     pair-asks-requires
     enum-told
     mul-join

@@ -1,10 +1,10 @@
 -- No pair before the place at hand asks anything, so some pair does if one from there on does.
-use Prim.Native.Nat.{ℕ, _+_, _-_, _≤_}
+use Prim.Native.Nat.{_-_}
 use native.Mathlib.Omega.{arith}
 use borrow.Author.Needs.{needs}
-use lib.ListN.{length, getD}
+use lib.ListN.{length}
 use mathlib.Core.Path.{sym, _∙_}
-use Rattle.pairs.proofs.Passing.{Looking, looking-start, looking-found, looking-next, looking-end}
+use Rattle.pairs.proofs.Passing.{InRange, in-range, Looking, looking-start, looking-found, looking-next, looking-end}
 use Rattle.pairs.proofs.some_asks.Statement.{statement}
 use Rattle.pairs.proofs.some_asks.Tie as tie
 
@@ -26,14 +26,8 @@ mul-first c = omega arith
 shared-slice-read-first : tie.Need-shared-slice-read-first Inv-loop μ-loop
 shared-slice-read-first c = omega arith
 
--- the numbers of a pair are from 1 to 256
-range : (c : tie.In-loop Inv-loop μ-loop) →
-    let ns = c .before .before .before .args .pairs .now in
-    let k = c .before .loop .k in
-    ((1 ≤ getD ns k 0) × (getD ns k 0 ≤ 256)) × ((1 ≤ getD ns (k + 1) 0) × (getD ns (k + 1) 0 ≤ 256))
-range c =
-    let k : ℕ = c .before .loop .k in
-    (c .before .before .before .pre k (omega (arith, c .loop-test .taken)), c .before .before .before .pre (k + 1) (c .loop-test .taken))
+range : (c : tie.In-loop Inv-loop μ-loop) → InRange (c .before .before .before .args .pairs .now) (c .before .loop .k)
+range c = in-range (c .before .before .before .args .pairs .now) (c .before .loop .k) (c .before .before .before .pre) (c .loop-test .taken)
 
 cast-first : tie.Need-cast-first Inv-loop μ-loop
 cast-first c = omega (arith, range (c .before) .0 .1)
@@ -59,18 +53,10 @@ sub-second c = range (c .before .before) .1 .0
 add-k : tie.Need-add-k Inv-loop μ-loop
 add-k c = omega arith
 
-element-copy-out-pair-asks : tie.Need-element-copy-out-pair-asks Inv-loop μ-loop
-element-copy-out-pair-asks c =
-    let r = range (c .before .before) in
-    omega arith
-
-element-copy-out-pair-asks-2 : tie.Need-element-copy-out-pair-asks-2 Inv-loop μ-loop
-element-copy-out-pair-asks-2 c =
-    let r = range (c .before .before .before) in
-    omega arith
-
 pair-asks-requires : tie.Need-pair-asks-requires Inv-loop μ-loop
-pair-asks-requires c κs = search needs
+pair-asks-requires c κs =
+    let r = range (c .before .before) in
+    (omega arith, omega arith)
 
 is-asked-requires : tie.Need-is-asked-requires Inv-loop μ-loop
 is-asked-requires c κs = search needs
@@ -78,16 +64,16 @@ is-asked-requires c κs = search needs
 returns : tie.Need-returns Inv-loop μ-loop
 returns c =
     let a = c .before .before in
-    let l = a .before .before .before .before .before in
+    let l = a .before .before .before in
     looking-found _ _ _ (l .before .loop .inv) (l .loop-test .taken) _ (a .pair-asks .ensures) (sym (c .before .is-asked .ensures) ∙ c .if1 .taken)
 
 loop-less : tie.Need-loop-less Inv-loop μ-loop
-loop-less c = omega (arith, c .before .before .before .before .before .before .before .loop-test .taken)
+loop-less c = omega (arith, c .before .before .before .before .before .loop-test .taken)
 
 loop-again : tie.Need-loop-again Inv-loop μ-loop
 loop-again c =
     let a = c .before .before in
-    let l = a .before .before .before .before .before in
+    let l = a .before .before .before in
     looking-next _ _ _ (l .before .loop .inv) (l .loop-test .taken) _ (a .pair-asks .ensures) (sym (c .before .is-asked .ensures) ∙ c .if1 .left)
 
 returns-2 : tie.Need-returns-2 Inv-loop μ-loop
@@ -111,8 +97,6 @@ some-asks-spec =
     cast-second
     sub-second
     add-k
-    element-copy-out-pair-asks
-    element-copy-out-pair-asks-2
     pair-asks-requires
     is-asked-requires
     returns
