@@ -38,7 +38,8 @@ enum-told-2 c = search needs
 
 some-asks-requires : tie.Need-some-asks-requires Inv-loop μ-loop
 some-asks-requires c κs =
-    let n = c .before .before .before .before .before .before .before .before in
+    let a = c .before .before .before .before in
+    let n = a .before .before .before .before in
     let w = n .loop .inv .some in
     numbers-low _ (n .before .before .before .args .side .now) (w .fits) (w .some .kept .small .fits .wide)
 
@@ -50,7 +51,10 @@ returns-2 c =
     (sym (c .before .some-asks .ensures) ∙ not-true _ (c .if1 .taken))
 
 pass-pairs-requires : tie.Need-pass-pairs-requires Inv-loop μ-loop
-pass-pairs-requires c κs = c .before .before .before .before .before .before .before .before .before .before .loop .inv .some
+pass-pairs-requires c κs =
+    let e = c .before .before .before .before in
+    let a = e .before .before in
+    a .before .before .before .before .loop .inv .some
 
 returns-3 : tie.Need-returns-3 Inv-loop μ-loop
 returns-3 c =

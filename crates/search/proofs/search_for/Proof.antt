@@ -16,7 +16,8 @@ use Rattle.search.proofs.search_for.Tie as tie
 -- the file's matrix and costs
 loaded : (c : tie.After-found2) →
     let k = c .before .before in
-    Loaded (k .before .before .before .before .before .before .before .before .before .before .args .file .now) (c .found2 .given .0 .0) (k .read-matrix .last .1 .0) (k .read-matrix .last .1 .1 .0)
+    let a = k .before .before .before .before .before .before .before .before .before .before .args in
+    Loaded (a .file .now) (c .found2 .given .0 .0) (k .read-matrix .last .1 .0) (k .read-matrix .last .1 .1 .0)
 loaded c = c .before .before .read-matrix .ensures .1 .1 .1 _ (c .found2 .given .1)
 
 -- the root, where the tests pass
