@@ -1,9 +1,9 @@
 /*
  * A desk plug-in: reads a duty file, searches for the cheapest plan, or for the one whose longest duty is cheapest, checks it and prints
  * the roster. The numbers after `agreed` are those of duties that must be in the plan, and after `absent` of duties that must not be; both
- * rise. Those after `pairs` are the first and the second duty of each pair in turn: the first may be in the plan only if the second is.
- * With `drag` it makes an empty desk over the file, puts duty N in at +N and takes it out at -N, and says after each such step whether the
- * duties in are a plan.
+ * rise, and an absent duty is struck from the agreed ones. Those after `pairs` are the first and the second duty of each pair in turn: the
+ * first may be in the plan only if the second is. With `drag` it makes an empty desk over the file, puts duty N in at +N and takes it out
+ * at -N, and says after each such step whether the duties in are a plan.
  *
  *     gcc -Iinclude examples/desk.c target/staticlib/libspp.a -o desk
  *     ./desk FILE [ALLOWANCE [sum|longest [agreed N..] [absent N..] [pairs N N..]]]
@@ -152,13 +152,27 @@ static int print_roster(const struct duties *duties, struct spp_answer answer, c
     return 0;
 }
 
-/* What no plan does, by the lists that are given. */
-static const char *unmet(const struct spp_lists *lists) {
-    int listed = lists->agreed_count || lists->absent_count;
-    if (lists->pair_count) {
-        return listed ? "has every agreed duty and no absent one and obeys the pairs" : "obeys the pairs";
+/* Whether some duty is agreed and absent. */
+static int overlap(const struct spp_lists *lists) {
+    size_t i, j;
+    for (i = 0; i < lists->agreed_count; i++) {
+        for (j = 0; j < lists->absent_count; j++) {
+            if (lists->agreed[i] == lists->absent[j]) {
+                return 1;
+            }
+        }
     }
-    return listed ? "has every agreed duty and no absent one" : "exists";
+    return 0;
+}
+
+/* Prints what no plan does, by the lists that are given. */
+static void print_unmet(const struct spp_lists *lists) {
+    if (lists->agreed_count || lists->absent_count) {
+        printf("has every agreed duty%s and no absent one%s", overlap(lists) ? " that is not absent" : "",
+               lists->pair_count ? " and obeys the pairs" : "");
+    } else {
+        printf("%s", lists->pair_count ? "obeys the pairs" : "exists");
+    }
 }
 
 static int solve(const struct duties *duties, uint32_t node_limit, int longest, const struct spp_lists *lists) {
@@ -172,7 +186,9 @@ static int solve(const struct duties *duties, uint32_t node_limit, int longest, 
         return print_roster(duties, answer, plan, longest);
     }
     if (answer.outcome == SPP_NONE) {
-        printf("no roster: no plan %s, %u nodes\n", unmet(lists), (unsigned)answer.nodes);
+        printf("no roster: no plan ");
+        print_unmet(lists);
+        printf(", %u nodes\n", (unsigned)answer.nodes);
     } else {
         printf("no roster: stopped without a plan, floor %llu, %u nodes\n", (unsigned long long)answer.bound,
                (unsigned)answer.nodes);

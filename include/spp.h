@@ -52,7 +52,7 @@ extern "C" {
 #define SPP_BAD_LIMIT 11      /* the node limit is out of range */
 #define SPP_BAD_COLUMN 12     /* an offered column is out of range, or the offered list does not rise */
 #define SPP_UNEQUAL_LISTS 13  /* the writer's lists disagree in length */
-#define SPP_BAD_AGREED 14     /* an agreed column is out of range, or the agreed list does not rise */
+#define SPP_BAD_AGREED 14     /* the agreed list as lent has a column out of range, or does not rise */
 #define SPP_BAD_ABSENT 15     /* an absent column is out of range, or the absent list does not rise */
 #define SPP_BAD_TABLE 16      /* the table has no crews, above 16 crews or vessels, or more crews than vessels */
 #define SPP_BAD_TABLE_COST 17 /* a cost in the table is above 1,000,000 */
@@ -64,8 +64,8 @@ extern "C" {
 #define SPP_NULL 101          /* a null pointer was lent with a number of places above 0, or for a struct or a table */
 
 /*
- * Values of `outcome`, but for struct spp_uncrewed; 0 with a refusal. Plans are those that hold every agreed column and no absent one and
- * obey the pairs (struct spp_lists). For spp_assign read assignment for plan and total for price.
+ * Values of `outcome`, but for struct spp_uncrewed; 0 with a refusal. Plans are those that hold every agreed column that is not absent and
+ * no absent one, and obey the pairs (struct spp_lists). For spp_assign read assignment for plan and total for price.
  */
 #define SPP_BEST 1    /* no plan has a lower price than the one shown */
 #define SPP_NONE 2    /* there is no plan */
@@ -107,15 +107,16 @@ struct spp_reduced {
 
 /*
  * Columns that must be in the plan, columns that must not be, and pairs of columns of which the first may be in the plan only if the
- * second is. Each list may be empty, and a struct of zeros means no lists. The agreed and the absent list rise. There are at most 128
- * pairs, which may form chains and rings; a ring means all of its columns or none. Fields may be added at the end, so set all of it to
- * zeros first:
+ * second is. Each list may be empty, and a struct of zeros means no lists. The agreed and the absent list rise, and are tested as they are
+ * lent. A column may stand in both, which is no refusal (one array lent as both is): absent columns are struck from the agreed list before
+ * the search. There are at most 128 pairs, which may form chains and rings; a ring means all of its columns or none. Fields may be added
+ * at the end, so set all of it to zeros first:
  *
  *     struct spp_lists lists;
  *     memset(&lists, 0, sizeof lists);
  */
 struct spp_lists {
-    const uint16_t *agreed; /* columns that must be in the plan */
+    const uint16_t *agreed; /* columns that must be in the plan, but for those that are absent too */
     size_t agreed_count;
     const uint16_t *absent; /* columns that must not be in the plan */
     size_t absent_count;
@@ -370,9 +371,9 @@ static inline struct spp_answer spp_guarded_search(spp_core_call call, const uin
 }
 
 /*
- * Searches for a plan with the least sum of costs that holds every agreed column and no absent one and obeys the pairs, and enters at
- * most `node_limit` nodes, 1 to 1,000,000: fills in the plan's columns, rising. The plan list must hold as many places as there are rows.
- * The struct is lent as the lists are: it must not be null nor share a byte with one of them.
+ * Searches for a plan with the least sum of costs that holds every agreed column that is not absent and no absent one, and obeys the
+ * pairs, and enters at most `node_limit` nodes, 1 to 1,000,000: fills in the plan's columns, rising. The plan list must hold as many
+ * places as there are rows. The struct is lent as the lists are: it must not be null nor share a byte with one of them.
  */
 static inline struct spp_answer spp_search_with(const uint8_t *file, size_t file_count, uint32_t node_limit,
                                                 const struct spp_lists *lists, uint16_t *plan, size_t plan_count) {

@@ -396,6 +396,18 @@ static void accepted_lists(enum call call, uint64_t price, struct spp_answer wit
     refused_lists(call, search);
 }
 
+/* A column in both lists, which are two arrays: the stated answer, which is that of the absent list alone. */
+static void column_in_both(enum call call, uint64_t price) {
+    const search_with search = call == SEARCH_WITH ? spp_search_with : spp_longest_with;
+    const uint16_t also_absent[1] = {2};
+    struct spp_lists both = lists_of(agreed, 1, also_absent, 1, NULL, 0), alone = lists_of(NULL, 0, also_absent, 1, NULL, 0);
+    uint16_t found[5], found_alone[5];
+    struct spp_answer answer = search(file, 85, 1000, &both, found, 5);
+    struct spp_answer wanted = search(file, 85, 1000, &alone, found_alone, 5);
+    holds(answer.outcome == SPP_BEST && answer.price == price && !memcmp(found, plan, sizeof plan), call, "2 agreed and absent");
+    holds(equal_answers(answer, wanted) && !memcmp(found, found_alone, sizeof plan), call, "2 agreed and absent, and 2 absent");
+}
+
 /* A struct that gives the first four fields by their places, as a plug-in may, has no pairs. */
 #pragma GCC diagnostic push
 #pragma GCC diagnostic ignored "-Wmissing-field-initializers"
@@ -690,6 +702,8 @@ static void accepted(void) {
     accepted_search(LONGEST, longest_plan, 7, 6);
     accepted_lists(SEARCH_WITH, 18, pairs_by_sum);
     accepted_lists(LONGEST_WITH, 7, pairs_by_longest);
+    column_in_both(SEARCH_WITH, 17);
+    column_in_both(LONGEST_WITH, 8);
     four_fields(SEARCH_WITH, 18);
     four_fields(LONGEST_WITH, 7);
     accepted_assign();

@@ -143,6 +143,15 @@ pub fn search_with(
     (found.0, found.1.list()[..shown].to_vec())
 }
 
+/// The engine's answer and plan list with each of two requests: both must be equal.
+pub fn alike(report: &mut Report, goal: Goal, file: &[u8], limit: u32, requests: [Requests; 2], room: usize) {
+    let [one, other] = requests.map(|asked| {
+        let mut plan = shorts(room);
+        (engine::search_with(goal, file, limit, asked, plan.list_mut()), plan)
+    });
+    report.same(&one, &other, || format!("search ({goal}), allowance {limit}, {requests:?}, room {room}, {}", hex(file)));
+}
+
 /// An answer list: no place holds the number of a vessel.
 fn no_vessels(count: usize) -> Lent<u8> {
     Lent::new(count, |place| (place % 239) as u8 + 17)

@@ -54,6 +54,7 @@ fn compare_all() -> bool {
     groups::worked_pairs::run(&mut report);
     groups::pairs::run(&mut report);
     groups::pair_faults::run(&mut report);
+    groups::overlaps::run(&mut report);
     groups::damaged::run(&mut report);
     groups::rooms::run(&mut report);
     groups::deep::run(&mut report);

@@ -19,14 +19,15 @@ fn all_rows(rows: u16) -> u64 {
     u64::MAX >> (64 - rows)
 }
 
-/// The columns that the lists leave, counted from 0: no absent one, and none that shares a row with an agreed one other than itself. So a
-/// row of an agreed column is left that column alone, and any set of these columns that covers each row holds every agreed one. Of two
-/// agreed ones that share a row neither is left, and nothing covers that row.
+/// The columns that the lists leave, counted from 0: no absent one, and none that shares a row with another one that is asked for. Asked
+/// for is an agreed column that is not absent. So a row of such a column is left that column alone, and any set of the columns left that
+/// covers each row holds all of these. Of two that share a row neither is left, and nothing covers that row.
 fn left_by(requests: Requests, sets: &[u64]) -> Vec<usize> {
-    let is_apart = |column: usize, agreed: u16| column + 1 == agreed as usize || sets[column] & sets[agreed as usize - 1] == 0;
-    let is_left = |&column: &usize| {
-        !requests.absent.contains(&(column as u16 + 1)) && requests.agreed.iter().all(|&agreed| is_apart(column, agreed))
-    };
+    let stands_in = |list: &[u16], column: usize| list.contains(&(column as u16 + 1));
+    let is_asked_for = |column: usize| stands_in(requests.agreed, column) && !stands_in(requests.absent, column);
+    let asked_for: Vec<usize> = (0..sets.len()).filter(|&column| is_asked_for(column)).collect();
+    let is_apart = |column: usize, other: usize| column == other || sets[column] & sets[other] == 0;
+    let is_left = |&column: &usize| !stands_in(requests.absent, column) && asked_for.iter().all(|&other| is_apart(column, other));
     (0..sets.len()).filter(is_left).collect()
 }
 
@@ -74,7 +75,8 @@ fn is_chosen(chosen: &Chosen, number: u16) -> bool {
     chosen[column / 64] >> (column % 64) & 1 == 1
 }
 
-/// The same, of the plans that hold every agreed column and no absent one and obey the pairs. The numbers of all lists are in range.
+/// The same, of the plans that hold every agreed column that is not absent and no absent one, and obey the pairs. The numbers of all lists
+/// are in range.
 pub fn least_price_with(columns: &Columns, goal: Goal, requests: Requests, most: usize) -> Least {
     let pairs = requests.pairs;
     if pairs.is_empty() {

@@ -3,7 +3,7 @@
 use mathlib.Core.Path.{_≡_, refl}
 use mathlib.Core.Bool.{Bool, true}
 use mathlib.Core.List.{List}
-use Prim.Native.Nat.{ℕ, _≤_, _<_}
+use Prim.Native.Nat.{ℕ, _-_, _≤_, _<_}
 use Rattle.node.specs.declared.Node.{Node}
 use Rattle.node.specs.Lists.{member}
 use Rattle.node.specs.Matrix.{Matrix, covers, IsPlan}
@@ -19,11 +19,12 @@ use Rattle.rules.specs.Demand.{Demand3}
 use Rattle.rules.specs.Longest.{dearest, longest, byFloor}
 use Rattle.rules.specs.Goals.{searchFor, valueFor}
 use Rattle.rules.specs.Pairs.{Pair, pairsOf, Paired}
-use Rattle.rules.specs.Requests.{Requests, columnsOf, begun, requested, Granted}
+use Rattle.rules.specs.Requests.{Requests, columnsOf, toHold, begun, unstruckStart, requested, Granted}
 use Rattle.rules.proofs.Plans.{root-free}
 use Rattle.rules.proofs.Variants.{Stepping, Laws}
 use Rattle.rules.proofs.Demand.{demand-3}
 use Rattle.rules.proofs.Agreed.{Keeps, Inside, Distinct, start-keeps-good, both-none, shared-none, agreed-laws}
+use Rattle.rules.proofs.Struck.{struck-inside, struck-distinct, member-columns}
 use Rattle.rules.proofs.Pairs.{PairsInside, paired-steps, paired-laws}
 use Rattle.rules.proofs.Costs.{Good}
 use Rattle.rules.proofs.Sum.{sum-laws}
@@ -37,6 +38,14 @@ pub record Askable (p : Matrix) (q : Requests) : Type 0 where
   pub distinct : Distinct (columnsOf (q .agreed))
   pub pairs : PairsInside p (pairsOf (q .pairs))
 
+-- so it is of the columns that a plan must hold
+module _ (p : Matrix) (q : Requests) (a : Askable p q) where
+  hold-inside : Inside p (toHold q)
+  hold-inside = struck-inside (q .agreed) (q .absent) p (a .agreed)
+
+  hold-distinct : Distinct (toHold q)
+  hold-distinct = struck-distinct (q .agreed) (q .absent) (a .distinct)
+
 -- what holds of every node, and the laws of the search from the root
 goal-laws : (g : Goal) (p : Matrix) → FitsNode p → (cs : List ℕ)
     → (Good : Node → Type 0) × Laws p (searchFor g p) (live (root p cs)) (IsPlan p) (valueFor g p cs) Good
@@ -47,23 +56,17 @@ goal-laws Longest p F cs = (High p cs, longest-laws p F cs)
 -- any search that keeps its laws, with what a desk asks
 module _ (p : Matrix) (F : FitsNode p) (cs : List ℕ) (q : Requests) (a : Askable p q) (o : Variant) (value : (ℕ → Bool) → ℕ)
     (Good : Node → Type 0) (L : Laws p o (live (root p cs)) (IsPlan p) value Good) where
-  abbrev agreed : List ℕ
-  agreed = columnsOf (q .agreed)
-
-  abbrev absent : List ℕ
-  absent = columnsOf (q .absent)
-
   abbrev qs : List Pair
   qs = pairsOf (q .pairs)
 
   paired-root : Laws p (requested p q o) (live (root p cs)) (Paired (IsPlan p) qs) value Good
   paired-root = paired-laws p F o (live (root p cs)) (IsPlan p) value Good L qs (a .pairs)
 
-  pub requested-laws : Laws p (requested p q o) (begun o p q (root p cs)) (Granted p q) value (Keeps Good (columnsOf (q .agreed)) (columnsOf (q .absent)))
+  pub requested-laws : Laws p (requested p q o) (begun o p q (root p cs)) (Granted p q) value (Keeps Good (toHold q) (columnsOf (q .absent)))
   unfolding begun
   requested-laws =
-      agreed-laws p F (requested p q o) (Paired (IsPlan p) qs) value Good (root p cs) paired-root agreed absent (a .agreed) (a .absent)
-      (a .distinct) (root-free p F cs)
+      agreed-laws p F (requested p q o) (Paired (IsPlan p) qs) value Good (root p cs) paired-root (toHold q) (columnsOf (q .absent))
+      (hold-inside p q a) (a .absent) (hold-distinct p q a) (root-free p F cs)
 
   pub requested-demand-3 : (limit : ℕ) →
       let start : Forced = begun o p q (root p cs) in
@@ -82,8 +85,8 @@ pub begun-workable : (g : Goal) (l cs : List ℕ) (q : Requests) → Askable (ma
 unfolding begun
 begun-workable g l cs q a w =
     let p : Matrix = matrixIn l in
-    start-keeps-good p (w .kept .small .fits) (searchFor g p) (IsPlan p) (WorkableFor g l) (goal-steps g l (w .kept)) (columnsOf (q .agreed))
-    (columnsOf (q .absent)) (a .agreed) (a .absent) (a .distinct) (root p cs) w (root-free p (w .kept .small .fits) cs)
+    start-keeps-good p (w .kept .small .fits) (searchFor g p) (IsPlan p) (WorkableFor g l) (goal-steps g l (w .kept)) (toHold q)
+    (columnsOf (q .absent)) (hold-inside p q a) (a .absent) (hold-distinct p q a) (root p cs) w (root-free p (w .kept .small .fits) cs)
 
 module _ (p : Matrix) (F : FitsNode p) (cs : List ℕ) (q : Requests) (a : Askable p q) (limit : ℕ) (one : 1 ≤ limit) where
   -- the search for a goal, and the steps that it makes from the root
@@ -95,22 +98,23 @@ module _ (p : Matrix) (F : FitsNode p) (cs : List ℕ) (q : Requests) (a : Askab
       let L = goal-laws g p F cs in
       (L .0, paired-steps p F (searchFor g p) (IsPlan p) (L .0) (L .1 .steps) (pairsOf (q .pairs)) (a .pairs), L .1 .start-good refl)
 
-  -- a column in both lists: no plan, and one node
-  pub goal-both-none : (g : Goal) (j : ℕ) → member j (columnsOf (q .agreed)) ≡ true → member j (columnsOf (q .absent)) ≡ true
-      → answer (requested p q (searchFor g p)) p (begun (searchFor g p) p q (root p cs)) limit ≡ none 1
-  unfolding begun
-  goal-both-none g =
+  -- a number in both lists: before P9 no plan, and one node
+  pub goal-both-none : (g : Goal) (j : ℕ) → member j (q .agreed) ≡ true → member j (q .absent) ≡ true
+      → answer (requested p q (searchFor g p)) p (unstruckStart (searchFor g p) p q (root p cs)) limit ≡ none 1
+  unfolding unstruckStart
+  goal-both-none g j m n =
       let S = goal-stepping g in
-      both-none p F (o g) _ (S .0) (S .1) _ _ (a .agreed) (a .absent) (root p cs) (S .2) limit one
+      both-none p F (o g) _ (S .0) (S .1) _ _ (a .agreed) (a .absent) (root p cs) (S .2) limit one (j - 1) (member-columns j _ m)
+      (member-columns j _ n)
 
-  -- two agreed columns that share a row: the same
-  pub goal-shared-none : (g : Goal) (j k : ℕ) → member j (columnsOf (q .agreed)) ≡ true → member k (columnsOf (q .agreed)) ≡ true
-      → (k ≡ j → ⊥) → (i : ℕ) → i < p .rows → covers p i j ≡ true → covers p i k ≡ true
+  -- two columns to hold that share a row: no plan, and one node
+  pub goal-shared-none : (g : Goal) (j k : ℕ) → member j (toHold q) ≡ true → member k (toHold q) ≡ true → (k ≡ j → ⊥)
+      → (i : ℕ) → i < p .rows → covers p i j ≡ true → covers p i k ≡ true
       → answer (requested p q (searchFor g p)) p (begun (searchFor g p) p q (root p cs)) limit ≡ none 1
   unfolding begun
   goal-shared-none g =
       let S = goal-stepping g in
-      shared-none p F (o g) _ (S .0) (S .1) _ _ (a .agreed) (a .absent) (root p cs) (S .2) limit one
+      shared-none p F (o g) _ (S .0) (S .1) _ _ (hold-inside p q a) (a .absent) (root p cs) (S .2) limit one
 
   -- for the longest duty: the search that works P1's floor out anew, at each node when it is forced and the pairs ask nothing, answers the same
   pub requested-floor :

@@ -27,6 +27,6 @@ pub record Alike (p : Matrix) (costs : List ℕ) (q : Requests) (before other : 
   pub none-alike : isStopped x ≡ false → isStopped y ≡ false → isNone x ≡ isNone y
   -- Where both are best, the price is the same.
   pub price-alike : (c b n : ℕ) (js : List ℕ) (d e m : ℕ) (ks : List ℕ) → x ≡ best c b n js → y ≡ best d e m ks → c ≡ d
-  -- No plan that obeys the pairs, holds every agreed duty and no absent one is priced below the root floor of either.
+  -- No plan that counts, by what is asked, is priced below the root floor of either.
   pub bound : (X : ℕ → Bool) → Granted p q X → boundBy before p costs q ≤ price p costs X
   pub other-bound : (X : ℕ → Bool) → Granted p q X → boundBy other p costs q ≤ price p costs X

@@ -7,7 +7,7 @@ use Rattle.rules.specs.Search.{nothing, Answer, best, none, stopped}
 use Rattle.rules.specs.Tree.{sum}
 use Rattle.rules.specs.Files.{file, told, usual}
 use Rattle.rules.specs.Longest.{largest, raised, longest}
-use Rattle.rules.specs.Agreed.{without, withAll, agreedStart}
+use Rattle.rules.specs.Agreed.{without, withAll, agreedStart, struck}
 use Rattle.rules.specs.Pairs.{pairsOf, pairAsked, passOn, pass, pairedBy, paired}
 use Rattle.rules.specs.Requests.{asking, begun}
 use Rattle.rules.specs.RequestCases.{with}
@@ -68,6 +68,9 @@ pairCases :
     ∷ solvedPaired fourDuties usual (1 ∷ []) [] (1 ∷ 4 ∷ 1 ∷ 4 ∷ [])
     -- an agreed first and an absent second
     ∷ solvedPaired fourDuties usual (1 ∷ []) (4 ∷ []) (1 ∷ 4 ∷ [])
+    -- a column in both lists, as the first and as the second
+    ∷ solvedPaired fourDuties usual (1 ∷ []) (1 ∷ []) (1 ∷ 4 ∷ [])
+    ∷ solvedPaired fourDuties usual (1 ∷ []) (1 ∷ []) (4 ∷ 1 ∷ [])
     ∷ [])
     ≡
     (best 4 4 1 (1 ∷ 4 ∷ [])
@@ -90,6 +93,8 @@ pairCases :
     ∷ best 9 9 1 (1 ∷ 2 ∷ 4 ∷ [])
     ∷ best 4 4 1 (1 ∷ 4 ∷ [])
     ∷ none 1
+    ∷ best 3 3 2 (2 ∷ 3 ∷ [])
+    ∷ best 3 3 1 (2 ∷ 3 ∷ [])
     ∷ [])
-unfolding told largest raised without withAll agreedStart begun pairsOf pairAsked passOn pass pairedBy paired
+unfolding told largest raised without withAll agreedStart struck begun pairsOf pairAsked passOn pass pairedBy paired
 pairCases = refl

@@ -6,7 +6,7 @@ use Rattle.node.specs.declared.Node.{Node}
 use Rattle.node.specs.Matrix.{Matrix, IsPlan}
 use Rattle.rules.specs.declared.Forced.{Forced}
 use Rattle.rules.specs.Tree.{Variant}
-use Rattle.rules.specs.Agreed.{agreedStart, Agreeing}
+use Rattle.rules.specs.Agreed.{agreedStart, struck, Agreeing}
 use Rattle.rules.specs.Pairs.{pairsOf, withPairs, Paired}
 
 -- the lists as they are lent, with columns numbered from 1
@@ -26,14 +26,22 @@ unasked = asking [] [] []
 abbrev pub columnsOf : List ℕ → List ℕ
 columnsOf = map (λ j. j - 1)
 
+-- the columns that a plan must hold: the agreed ones that are not absent (02, P9)
+abbrev pub toHold : Requests → List ℕ
+toHold q = columnsOf (struck (q .agreed) (q .absent))
+
 -- the start of a search, from the root
 unfoldable pub begun : Variant → Matrix → Requests → Node → Forced
-begun o p q = agreedStart (o .join) p (columnsOf (q .agreed)) (columnsOf (q .absent))
+begun o p q = agreedStart (o .join) p (toHold q) (columnsOf (q .absent))
+
+-- the same before P9: nothing is struck from the agreed list
+unfoldable pub unstruckStart : Variant → Matrix → Requests → Node → Forced
+unstruckStart o p q = agreedStart (o .join) p (columnsOf (q .agreed)) (columnsOf (q .absent))
 
 -- a search with what is asked at every node
 abbrev pub requested : Matrix → Requests → Variant → Variant
 requested p q o = withPairs p (pairsOf (q .pairs)) o
 
--- the choices that count: the plans that obey the pairs, hold every agreed column and no absent one
+-- the choices that count: the plans that obey the pairs, hold every agreed column that is not absent, and no absent one
 abbrev pub Granted : Matrix → Requests → (ℕ → Bool) → Type 0
-Granted p q = Agreeing (Paired (IsPlan p) (pairsOf (q .pairs))) (columnsOf (q .agreed)) (columnsOf (q .absent))
+Granted p q = Agreeing (Paired (IsPlan p) (pairsOf (q .pairs))) (toHold q) (columnsOf (q .absent))

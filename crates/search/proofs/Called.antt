@@ -18,7 +18,7 @@ use Rattle.rules.specs.declared.Forced.{Forced}
 use Rattle.rules.specs.Tree.{answer}
 use Rattle.rules.specs.Agreed.{agreedStart}
 use Rattle.rules.specs.Goals.{searchFor, searchWith, valueFor}
-use Rattle.rules.specs.Requests.{Requests, columnsOf, begun, Granted}
+use Rattle.rules.specs.Requests.{Requests, columnsOf, toHold, begun, Granted}
 use Rattle.rules.proofs.Plans.{plan-short}
 use Rattle.rules.proofs.Goals.{WorkableFor, goal-root}
 use Rattle.rules.proofs.Requests.{Askable, begun-workable}
@@ -90,7 +90,7 @@ module _ (g : Goal) (s : List ℕ) (limit places : ℕ) (q : Requests) where
         record { some = rw (w .is) workable; agreed = n .0; absent = n .1 }
 
     module _ (start : Forced)
-        (starts : start ≡ agreedStart (searchFor g (matrixIn l) .join) (matrixIn l) (columnsOf (q .agreed)) (columnsOf (q .absent)) first) where
+        (starts : start ≡ agreedStart (searchFor g (matrixIn l) .join) (matrixIn l) (toHold q) (columnsOf (q .absent)) first) where
       pub searchable : Searchable g (q .pairs) l (start .node) limit
       unfolding callFault begun
       searchable =

@@ -1,16 +1,19 @@
 -- Empty lists give the answers of before, for every file, node limit and plan list, in outcome and list, for both goals: an empty list of
--- pairs those that P2 had (02, P8), and with it two empty lists of columns those of 01 and of P1 (02, P2).
+-- pairs, in the calls as P8 had them, those that P2 had (02, P8); and with it two empty lists of columns, in the calls as they are now, those
+-- of 01 and of P1 (02, P2).
 use mathlib.Core.Path.{_≡_, refl, ap, _∙_}
+use mathlib.Core.Bool.{true, false}
 use mathlib.Core.List.{List, []}
 use Prim.Native.Nat.{ℕ}
 use Rattle.refusals.specs.Refusals.{Fault, fine, fault, ask, _then_}
+use Rattle.node.specs.Lists.{member}
 use Rattle.node.specs.Matrix.{Matrix, Instance}
 use Rattle.node.specs.Node.{root}
 use Rattle.rules.specs.declared.Forced.{Forced}
 use Rattle.rules.specs.Tree.{Variant, sum, live, answer}
 use Rattle.rules.specs.Longest.{longest}
 use Rattle.rules.specs.Pairs.{pairsOf}
-use Rattle.rules.specs.Requests.{asking, unasked, begun, requested}
+use Rattle.rules.specs.Requests.{asking, unasked, unstruckStart}
 use Rattle.rules.proofs.Agreed.{agreed-none}
 use Rattle.rules.proofs.Pairs.{paired-none}
 use Rattle.dutyfile.specs.File.{parse, instance, shape}
@@ -18,8 +21,10 @@ use Rattle.dutyfile.specs.Faults.{rising, fileFault}
 use Rattle.search.specs.Searching.{callFault, fileAnswer, searching, planList}
 use Rattle.search.specs.Longest.{longestAnswer, longestSearching, longestList}
 use Rattle.search.specs.Agreed.{agreedFault, agreedAnswer, agreedSearching, agreedList}
-use Rattle.search.specs.Requests.{arePairs, pairFault, requestFault, callFaultWith, faultWith, answerWith, searchingWith, planListWith}
-use Rattle.search.specs.Requests.{longestAnswerWith, longestSearchingWith, longestListWith}
+use Rattle.search.specs.Requests.{arePairs, pairFault, requestFault, callFaultWith, faultWith, searchingWith, planListWith}
+use Rattle.search.specs.Requests.{longestSearchingWith, longestListWith}
+use Rattle.search.specs.Unstruck.{unstruckAnswer, unstruckSearching, unstruckList}
+use Rattle.search.proofs.Struck.{apart-search, apart-list, apart-longest, apart-longest-list}
 
 then-fine : (a : Fault) → (a then fine) ≡ a
 unfolding _then_
@@ -39,31 +44,22 @@ module _ (file : List ℕ) (limit : ℕ) where
     unfolding faultWith callFaultWith requestFault pairFault arePairs agreedFault ask
     faults places = simp then-fine
 
-    answers : (search : Matrix → Variant)
-        → answer (requested m (asking agreed absent []) (search m)) m (begun (search m) m (asking agreed absent []) (root m (p .costs))) limit
-        ≡ agreedAnswer search file limit agreed absent
-    unfolding pairsOf begun agreedAnswer
-    answers search =
-        let start : Forced = begun (search m) m (asking agreed absent []) (root m (p .costs)) in
+    pub unpaired-answer : (search : Matrix → Variant)
+        → unstruckAnswer search file limit (asking agreed absent []) ≡ agreedAnswer search file limit agreed absent
+    unfolding pairsOf unstruckStart unstruckAnswer agreedAnswer
+    unpaired-answer search =
+        let start : Forced = unstruckStart (search m) m (asking agreed absent []) (root m (p .costs)) in
         ap (λ (o : Variant). answer o m start limit) (paired-none m (search m))
 
-    pub unpaired-search : (places : ℕ)
-        → searchingWith file limit (asking agreed absent []) places ≡ agreedSearching sum file limit agreed absent places
-    unfolding searchingWith answerWith agreedSearching
-    unpaired-search places = rw (faults places, answers sum)
+    pub unpaired-search : (search : Matrix → Variant) (places : ℕ)
+        → unstruckSearching search file limit (asking agreed absent []) places ≡ agreedSearching search file limit agreed absent places
+    unfolding unstruckSearching agreedSearching
+    unpaired-search search places = rw (faults places, unpaired-answer search)
 
-    pub unpaired-list : planListWith file limit (asking agreed absent []) ≡ agreedList sum file limit agreed absent
-    unfolding planListWith answerWith agreedList
-    unpaired-list = rw (answers sum)
-
-    pub unpaired-longest : (places : ℕ)
-        → longestSearchingWith file limit (asking agreed absent []) places ≡ agreedSearching longest file limit agreed absent places
-    unfolding longestSearchingWith longestAnswerWith agreedSearching
-    unpaired-longest places = rw (faults places, answers longest)
-
-    pub unpaired-longest-list : longestListWith file limit (asking agreed absent []) ≡ agreedList longest file limit agreed absent
-    unfolding longestListWith longestAnswerWith agreedList
-    unpaired-longest-list = rw (answers longest)
+    pub unpaired-list : (search : Matrix → Variant)
+        → unstruckList search file limit (asking agreed absent []) ≡ agreedList search file limit agreed absent
+    unfolding unstruckList agreedList
+    unpaired-list search = rw (unpaired-answer search)
 
   -- two empty lists of columns besides
   no-faults : (places : ℕ) → agreedFault file limit [] [] places ≡ (fileFault file then callFault (shape file) places limit)
@@ -74,18 +70,22 @@ module _ (file : List ℕ) (limit : ℕ) where
   unfolding agreedAnswer
   no-lists search = ap (λ (r : Forced). answer (search m) m r limit) (agreed-none (search m) m (root m (p .costs)))
 
+  apart : (j : ℕ) → member j [] ≡ true → member j [] ≡ false
+  unfolding member
+  apart j m = refl
+
   pub unasked-search : (places : ℕ) → searchingWith file limit unasked places ≡ searching file limit places
   unfolding agreedSearching searching fileAnswer
-  unasked-search places = unpaired-search [] [] places ∙ rw (no-faults places, no-lists sum)
+  unasked-search places = apart-search file limit unasked apart places ∙ unpaired-search [] [] sum places ∙ rw (no-faults places, no-lists sum)
 
   pub unasked-list : planListWith file limit unasked ≡ planList file limit
   unfolding agreedList planList fileAnswer
-  unasked-list = unpaired-list [] [] ∙ rw (no-lists sum)
+  unasked-list = apart-list file limit unasked apart ∙ unpaired-list [] [] sum ∙ rw (no-lists sum)
 
   pub unasked-longest : (places : ℕ) → longestSearchingWith file limit unasked places ≡ longestSearching file limit places
   unfolding agreedSearching longestSearching longestAnswer
-  unasked-longest places = unpaired-longest [] [] places ∙ rw (no-faults places, no-lists longest)
+  unasked-longest places = apart-longest file limit unasked apart places ∙ unpaired-search [] [] longest places ∙ rw (no-faults places, no-lists longest)
 
   pub unasked-longest-list : longestListWith file limit unasked ≡ longestList file limit
   unfolding agreedList longestList longestAnswer
-  unasked-longest-list = unpaired-longest-list [] [] ∙ rw (no-lists longest)
+  unasked-longest-list = apart-longest-list file limit unasked apart ∙ unpaired-list [] [] longest ∙ rw (no-lists longest)

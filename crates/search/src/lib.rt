@@ -156,9 +156,9 @@ fn search_for(
     }
 }
 
-// Searches a duty file within a node limit (01: allowance) for the cheapest plan that holds every agreed column and no absent one and has the
-// first column of a pair only with the second: the answer, with the plan that it shows at the front of the list; with no plan, or refused, the
-// list is as it was.
+// Searches a duty file within a node limit (01: allowance) for the cheapest plan that holds every agreed column that is not absent, no absent
+// one, and the first column of a pair only with the second: the answer, with the plan that it shows at the front of the list; with no plan,
+// or refused, the list is as it was.
 pub fn search(
     file: &[u8],
     limit: u32,

@@ -90,9 +90,9 @@ pub extern "C" fn spp_core_reduce(file: &[u8], reduced: &mut [u32], order: &mut 
     flat::flat_reduced(answer)
 }
 
-// Searches a duty file for its cheapest plan that holds every agreed column and no absent one and has the first column of a pair only with the
-// second, within a node limit: best, none or stopped, with the columns of the plan shown at the front of the list; or a refusal, with the list
-// as it was.
+// Searches a duty file for its cheapest plan that holds every agreed column that is not absent, no absent one, and the first column of a pair
+// only with the second, within a node limit: best, none or stopped, with the columns of the plan shown at the front of the list; or a
+// refusal, with the list as it was.
 #[no_mangle]
 pub extern "C" fn spp_core_search(
     file: &[u8],

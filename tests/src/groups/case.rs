@@ -35,8 +35,23 @@ impl Case<'_> {
         format!("{:?}, {}", self.requests, hex(self.file))
     }
 
+    /// Where a column is agreed and absent (02, P9): the engine answers, and fills in the plan list, as it does with the agreed list less
+    /// the absent columns. The lists are accepted.
+    pub fn struck_by_hand(&self, report: &mut Report, limit: u32) {
+        let Requests { agreed, absent, .. } = self.requests;
+        let left: Vec<u16> = agreed.iter().copied().filter(|column| !absent.contains(column)).collect();
+        if left.len() < agreed.len() {
+            report.group_of(
+                self.goal,
+                "overlaps: the engine's answers and plan lists, and those with the agreed list struck by hand",
+            );
+            let struck = Requests { agreed: &left, ..self.requests };
+            compare::alike(report, self.goal, self.file, limit, [self.requests, struck], self.columns.rows as usize + 2);
+        }
+    }
+
     /// A plan shown is one at the price given, by the engine's plan check, by (a)'s, and by the columns as they were made; and it holds
-    /// every agreed column and no absent one, and obeys the pairs.
+    /// every agreed column that is not absent and no absent one, and obeys the pairs.
     pub fn plan_shown(&self, report: &mut Report, answer: &Answer, plan: &[u16]) {
         let Case { goal, columns, file, requests } = *self;
         if answer.has_plan == 0 {
@@ -45,7 +60,7 @@ impl Case<'_> {
         self.group(
             report,
             "plans shown pass the plan check and have the price given",
-            "lists: plans shown pass the plan check, have the price given, hold every agreed duty and no absent one",
+            "lists: plans shown pass the plan check, have the price given, hold every agreed duty not absent and no absent one",
             "pairs: plans shown pass the plan check, have the price given and are as asked",
         );
         let checked = compare::check(report, file, plan);

@@ -42,6 +42,7 @@ fn some_of(report: &mut Report, case: &Case, answer: &Answer, limits: &[u32]) {
         let (found, plan) = case.search(report, limit, case.columns.rows as usize);
         report.same(&(found.outcome == STOPPED), &(limit < answer.nodes), || format!("allowance {limit}, {}", case.text()));
         case.plan_shown(report, &found, &plan);
+        case.struck_by_hand(report, limit);
         group(report, case);
     }
 }

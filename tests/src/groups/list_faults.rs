@@ -1,5 +1,5 @@
 //! The refusals of the lists of agreed and absent columns (02, P2), with stated numbers: a fault at each place of a list, both lists
-//! faulty, and other faults beside them, which come first.
+//! faulty, faults that striking the absent columns would remove (02, P9), and other faults beside them, which come first.
 
 use spp_tests::files::{self, columns, Columns};
 use spp_tests::generate;
@@ -34,6 +34,7 @@ pub fn run(report: &mut Report) {
             legal_lists(report, &case);
             each_place(report, &case);
             long_lists(report, &case);
+            overlapping(report, &case);
         }
     }
 }
@@ -71,6 +72,7 @@ fn each_place(report: &mut Report, case: &Case) {
                 let mut faulty = list.clone();
                 faulty[place] = number;
                 one_fault(report, case, &list, &faulty);
+                struck_fault(report, case, &faulty, place);
             }
         }
     }
@@ -85,6 +87,42 @@ fn one_fault(report: &mut Report, case: &Case, list: &[u16], faulty: &[u16]) {
     refuses(report, case, list, faulty, 15);
     for (agreed, absent) in [(faulty, &[][..]), (&[][..], faulty), (faulty, faulty)] {
         earlier_refusals(report, case, Requests { agreed, absent, pairs: &[] });
+    }
+}
+
+/// The faulty number of an agreed list absent too, the number before it, and both of them: without these the list may be faultless.
+fn struck_fault(report: &mut Report, case: &Case, faulty: &[u16], place: usize) {
+    refuses(report, case, faulty, &faulty[place..=place], 14);
+    if place > 0 {
+        let before = faulty[place - 1];
+        refuses(report, case, faulty, &[before], 14);
+        refuses(report, case, faulty, &[before.min(faulty[place]), before.max(faulty[place])], 14);
+    }
+}
+
+/// Agreed lists that fall, repeat a number or leave the range, with what is wrong absent too; and the other way round.
+fn overlapping(report: &mut Report, case: &Case) {
+    let above = case.columns.costs.len() as u16 + 1;
+    let faults: [(&[u16], &[u16]); 12] = [
+        (&[3, 2], &[2]),
+        (&[3, 2], &[3]),
+        (&[3, 2], &[2, 3]),
+        (&[2, 1, 3], &[1]),
+        (&[2, 2], &[2]),
+        (&[1, 1], &[1]),
+        (&[0], &[0]),
+        (&[0, 1], &[0]),
+        (&[0, 1], &[0, 1]),
+        (&[above], &[above]),
+        (&[1, above], &[above]),
+        (&[1, above], &[1, above]),
+    ];
+    for (faulty, list) in faults {
+        refuses(report, case, faulty, list, 14);
+        earlier_refusals(report, case, Requests { agreed: faulty, absent: list, pairs: &[] });
+    }
+    for absent in [&[1, 1][..], &[2, 1], &[1, 0], &[0, 1], &[1, above]] {
+        refuses(report, case, &[1], absent, 15);
     }
 }
 

@@ -1,5 +1,6 @@
 //! Lists of agreed and absent columns (02, P2) for generated files: both searches against `plain`, against the second solver over the plans
-//! that hold every agreed column and no absent one, and against all such plans where they are few. Half of the lists are drawn from a plan.
+//! that hold every agreed column that is not absent and no absent one, and against all such plans where they are few. Half of the lists are
+//! drawn from a plan. Lists that overlap are among them; `overlaps` has more of these.
 
 use spp_tests::answers::{NONE, STOPPED};
 use spp_tests::files::Columns;

@@ -16,6 +16,7 @@ pub mod generated;
 pub mod limits;
 pub mod list_faults;
 pub mod lists;
+pub mod overlaps;
 pub mod pair_faults;
 pub mod pairs;
 pub mod prices;

@@ -1,5 +1,5 @@
 //! The refusals of the pairs of columns (02, P8), with stated numbers: lists of lengths about the largest, a fault at each place of a
-//! list, and other faults beside them, which come first.
+//! list, other faults beside them, which come first, and beside columns that are agreed and absent (02, P9).
 
 use spp_tests::generate_pairs::MOST_PAIRS;
 use spp_tests::goal::Goal;
@@ -65,6 +65,7 @@ fn lengths(report: &mut Report, case: &Case) {
             refuses(report, case, &pairs, 21);
             if length < 300 {
                 earlier_refusals(report, case, &pairs);
+                beside_overlaps(report, case, &pairs, 21);
             }
         }
     }
@@ -89,6 +90,7 @@ fn each_place(report: &mut Report, case: &Case) {
         let mut faulty = list.clone();
         faulty[2 * pairs - 1] = count + 1;
         earlier_refusals(report, case, &faulty);
+        beside_overlaps(report, case, &faulty, 20);
     }
 }
 
@@ -116,5 +118,27 @@ fn earlier_refusals(report: &mut Report, case: &Case, pairs: &[u16]) {
     for (requests, limit, room, wanted) in faults {
         let found = compare::search_with(report, case.goal, file, limit, requests, room).0;
         report.same(&found.refusal, &wanted, || format!("{requests:?}, {}", hex(file)));
+    }
+}
+
+/// Faulty pairs beside lists of which a column stands in both: these are refused as they are lent, before the pairs, or not at all.
+fn beside_overlaps(report: &mut Report, case: &Case, pairs: &[u16], refusal: u32) {
+    let (count, rows) = (case.columns.costs.len() as u16, case.columns.rows as usize);
+    let (all, above): (Vec<u16>, _) = ((1..=count).collect(), count + 1);
+    let lists: [(&[u16], &[u16], u32); 9] = [
+        (&[1], &[1], refusal),
+        (&[count], &[count], refusal),
+        (&all, &all, refusal),
+        (&[2, 1], &[1], 14),
+        (&[1, 1], &[1], 14),
+        (&[0, 1], &[0], 14),
+        (&[1, above], &[above], 14),
+        (&[1], &[1, 1], 15),
+        (&[1], &[1, above], 15),
+    ];
+    for (agreed, absent, wanted) in lists {
+        let case = Case { requests: Requests { agreed, absent, pairs }, ..*case };
+        let found = case.search(report, LIMIT, rows).0;
+        report.same(&found.refusal, &wanted, || case.text());
     }
 }

@@ -103,6 +103,33 @@ fn first_left() -> Vec<Search> {
     ]
 }
 
+/// Columns of pairs that are agreed and absent (02, P9). One that is struck is neither free nor taken. As a second, its first stops being
+/// free, or makes the node dead where it is taken; as a first it asks nothing.
+fn struck() -> Vec<Search> {
+    let asked = |agreed, absent, pairs| Requests { agreed, absent, pairs };
+    let case = |name, goal, requests, answer, plan| search(name, goal, two_each(), requests, answer, plan);
+    let (second, first) = (asked(&[4], &[4], &[1, 4]), asked(&[1], &[1], &[1, 4]));
+    let (first_left, second_left) = (asked(&[1, 4], &[4], &[1, 4]), asked(&[1, 4], &[1], &[1, 4]));
+    vec![
+        // 1 stops being free, and 2 and 3 are forced.
+        case("a second is struck", Sum, second, best(11, 11, 1, 2), &[2, 3]),
+        case("a second is struck", Longest, second, best(9, 9, 1, 2), &[2, 3]),
+        // 2 is forced, and the root branches on 3.
+        case("a first is struck", Sum, first, best(11, 11, 2, 2), &[2, 3]),
+        case("a first is struck", Longest, first, best(9, 9, 2, 2), &[2, 3]),
+        // 1 is taken and 4 is out.
+        case("a second is struck, its first left", Sum, first_left, none(1), &[]),
+        case("a second is struck, its first left", Longest, first_left, none(1), &[]),
+        // 4 is taken and 2 forced.
+        case("a first is struck, its second left", Sum, second_left, best(12, 12, 1, 2), &[2, 4]),
+        case("a first is struck, its second left", Longest, second_left, best(9, 9, 1, 2), &[2, 4]),
+        case("one of a ring is struck", Sum, asked(&[3], &[3], &[1, 3, 3, 1]), best(12, 12, 1, 2), &[2, 4]),
+        case("one of a ring is struck, the other left", Sum, asked(&[1, 3], &[3], &[1, 3, 3, 1]), none(1), &[]),
+        case("a ring is struck", Sum, asked(&[1, 3], &[1, 3], &[1, 3, 3, 1]), best(12, 12, 1, 2), &[2, 4]),
+        case("a ring is struck", Longest, asked(&[1, 3], &[1, 3], &[1, 3, 3, 1]), best(9, 9, 1, 2), &[2, 4]),
+    ]
+}
+
 /// Pairs gone through again. Columns 1, 4 and 6 are a chain with its last pair at the front. Node 2 takes 1; the pairs take 4, and again
 /// 6: a plan at 1 + 9 + 9. Node 3 has 2 forced, node 4 takes 3, node 5 takes 5: a plan at 9 + 1 + 1.
 fn done_again() -> Vec<Search> {
@@ -202,7 +229,7 @@ fn refused(report: &mut Report) {
 
 pub fn run(report: &mut Report) {
     report.group("pairs: stated values, small files and example 4");
-    let groups = [second_taken(), second_out(), first_left(), done_again(), long_chains(), fourth()];
+    let groups = [second_taken(), second_out(), first_left(), struck(), done_again(), long_chains(), fourth()];
     groups.iter().flatten().for_each(|case| stated_search(report, case));
     refused(report);
 }

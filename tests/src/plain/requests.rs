@@ -1,4 +1,4 @@
-//! The lists of 02, P2 and P8: their refusals; and what the root does with those of P2.
+//! The lists of 02, P2 and P8: their refusals; and what the root does with those of P2, by P9.
 
 use super::file::{rising, Duties};
 use super::matrix::Matrix;
@@ -7,7 +7,7 @@ use super::pairs;
 use crate::goal::Goal;
 use crate::requests::Requests;
 
-/// The refusal of the lists, if there is one: 14 for the agreed one, 15 for the absent one, then those of the pairs.
+/// The refusal of the lists as they are lent, if there is one: 14 for the agreed one, 15 for the absent one, then those of the pairs.
 pub fn refusal(requests: Requests, duties: &Duties) -> Option<u32> {
     let is_faulty = |list: &[u16]| !rising(list.iter().map(|&column| column as usize), duties.columns());
     if is_faulty(requests.agreed) {
@@ -20,13 +20,15 @@ pub fn refusal(requests: Requests, duties: &Duties) -> Option<u32> {
 }
 
 impl Node {
-    /// The absent columns stop being free, then the agreed ones are taken in list sequence. False if one of these is not free at its turn:
-    /// the root is dead.
+    /// The absent columns are struck from the agreed list and stop being free, then the agreed ones left are taken in list sequence. False
+    /// if one of these is not free at its turn: the root is dead.
     pub fn grant(&mut self, matrix: &Matrix, goal: Goal, requests: Requests) -> bool {
+        let mut agreed = requests.agreed.to_vec();
+        agreed.retain(|column| !requests.absent.contains(column));
         for &column in requests.absent {
             self.marks[column as usize - 1] = OUT;
         }
-        for &column in requests.agreed {
+        for column in agreed {
             let column = column as usize - 1;
             if self.marks[column] != FREE {
                 return false;
