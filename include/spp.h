@@ -52,7 +52,7 @@ extern "C" {
 #define SPP_BAD_LIMIT 11      /* the node limit is out of range */
 #define SPP_BAD_COLUMN 12     /* an offered column is out of range, or the offered list does not rise */
 #define SPP_UNEQUAL_LISTS 13  /* the writer's lists disagree in length */
-#define SPP_BAD_AGREED 14     /* the agreed list as lent has a column out of range, or does not rise */
+#define SPP_BAD_AGREED 14     /* an agreed column is out of range, or the agreed list does not rise */
 #define SPP_BAD_ABSENT 15     /* an absent column is out of range, or the absent list does not rise */
 #define SPP_BAD_TABLE 16      /* the table has no crews, above 16 crews or vessels, or more crews than vessels */
 #define SPP_BAD_TABLE_COST 17 /* a cost in the table is above 1,000,000 */
@@ -107,10 +107,10 @@ struct spp_reduced {
 
 /*
  * Columns that must be in the plan, columns that must not be, and pairs of columns of which the first may be in the plan only if the
- * second is. Each list may be empty, and a struct of zeros means no lists. The agreed and the absent list rise, and are tested as they are
- * lent. A column may stand in both, which is no refusal (one array lent as both is): absent columns are struck from the agreed list before
- * the search. There are at most 128 pairs, which may form chains and rings; a ring means all of its columns or none. Fields may be added
- * at the end, so set all of it to zeros first:
+ * second is. Each list may be empty, and a struct of zeros means no lists. The agreed and the absent list rise. A column may stand in both:
+ * once both lists are tested as they are lent, it is struck from the agreed one. One array lent as both lists is refused. There are at most
+ * 128 pairs, which may form chains and rings; a ring means all of its columns or none. Fields may be added at the end, so set all of it to
+ * zeros first:
  *
  *     struct spp_lists lists;
  *     memset(&lists, 0, sizeof lists);

@@ -11,7 +11,7 @@ use Rattle.rules.specs.Files.{file, told, usual, example4}
 use Rattle.rules.specs.Longest.{largest, raised, longest}
 use Rattle.rules.specs.Agreed.{without, withAll, agreedStart, struck}
 use Rattle.rules.specs.Pairs.{pairsOf, pass, pairedBy, paired}
-use Rattle.rules.specs.Requests.{Requests, asking, begun, unstruckStart, requested}
+use Rattle.rules.specs.Requests.{Requests, asking, begun, requested}
 
 abbrev pub with : (Matrix → Variant) → Instance → ℕ → Requests → Answer
 with search p limit q =
@@ -24,13 +24,6 @@ solvedWith p limit agreed absent = with sum p limit (asking agreed absent [])
 abbrev foundWith : Instance → ℕ → List ℕ → List ℕ → Answer
 foundWith p limit agreed absent = with longest p limit (asking agreed absent [])
 
--- the search as it was before P9
-abbrev formerly : (Matrix → Variant) → Instance → ℕ → List ℕ → List ℕ → Answer
-formerly search p limit agreed absent =
-    let m : Matrix = p .matrix in
-    let q : Requests = asking agreed absent [] in
-    told (requested m q (search m)) m (unstruckStart (search m) m q (root m (p .costs))) limit
-
 -- column 1 is taken before forcing, which would take it too; were it taken after, it would not be free then
 abbrev oneColumn : Instance
 oneColumn = file 1 (5 ∷ []) ((1 ∷ []) ∷ [])
@@ -40,7 +33,7 @@ abbrev twoEach : Instance
 twoEach = file 2 (9 ∷ 1 ∷ 2 ∷ 3 ∷ []) ((1 ∷ []) ∷ (1 ∷ []) ∷ (2 ∷ []) ∷ (2 ∷ []) ∷ [])
 
 -- 01's file of three columns and no plan, which 3 nodes find, and a fourth column that is a plan alone
-abbrev lastPlan : Instance
+abbrev pub lastPlan : Instance
 lastPlan = file 3 (1 ∷ 1 ∷ 1 ∷ 9 ∷ []) ((1 ∷ 2 ∷ []) ∷ (2 ∷ 3 ∷ []) ∷ (1 ∷ 3 ∷ []) ∷ (1 ∷ 2 ∷ 3 ∷ []) ∷ [])
 
 requestCases :
@@ -54,11 +47,9 @@ requestCases :
     -- two agreed columns that share row 1
     ∷ solvedWith example4 usual (3 ∷ 5 ∷ []) []
     ∷ foundWith example4 usual (3 ∷ 5 ∷ []) []
-    -- a column in both lists, which is absent; formerly the root was dead
+    -- a column in both lists, which is absent
     ∷ solvedWith example4 usual (6 ∷ []) (6 ∷ [])
     ∷ foundWith example4 usual (6 ∷ []) (6 ∷ [])
-    ∷ formerly sum example4 usual (6 ∷ []) (6 ∷ [])
-    ∷ formerly longest example4 usual (6 ∷ []) (6 ∷ [])
     -- the other agreed columns stay in their list, the next ones before and after too
     ∷ solvedWith example4 usual (5 ∷ 6 ∷ []) (6 ∷ [])
     ∷ solvedWith twoEach usual (2 ∷ 3 ∷ []) (2 ∷ [])
@@ -66,7 +57,6 @@ requestCases :
     -- a column in both lists, and no plan either way: for another agreed column, and for none
     ∷ solvedWith example4 usual (3 ∷ 6 ∷ []) (6 ∷ [])
     ∷ solvedWith lastPlan usual (4 ∷ []) (4 ∷ [])
-    ∷ formerly sum lastPlan usual (4 ∷ []) (4 ∷ [])
     -- lists that overlap wholly
     ∷ solvedWith example4 usual (5 ∷ 7 ∷ 8 ∷ []) (5 ∷ 7 ∷ 8 ∷ [])
     ∷ foundWith example4 usual (5 ∷ 7 ∷ 8 ∷ []) (5 ∷ 7 ∷ 8 ∷ [])
@@ -95,14 +85,11 @@ requestCases :
     ∷ none 1
     ∷ best 46 39 4 (2 ∷ 5 ∷ 10 ∷ [])
     ∷ best 22 18 5 (2 ∷ 5 ∷ 10 ∷ [])
-    ∷ none 1
-    ∷ none 1
     ∷ best 46 41 4 (2 ∷ 5 ∷ 10 ∷ [])
     ∷ best 11 11 1 (1 ∷ 3 ∷ [])
     ∷ best 3 3 1 (2 ∷ 4 ∷ [])
     ∷ none 1
     ∷ none 3
-    ∷ none 1
     ∷ best 42 42 1 (3 ∷ 6 ∷ 9 ∷ [])
     ∷ best 14 14 1 (3 ∷ 6 ∷ 9 ∷ [])
     ∷ none 1
@@ -117,5 +104,5 @@ requestCases :
     ∷ best 9 9 2 (1 ∷ 3 ∷ [])
     ∷ best 3 3 1 (2 ∷ 4 ∷ [])
     ∷ [])
-unfolding told largest raised without withAll agreedStart struck begun unstruckStart pairsOf pass pairedBy paired
+unfolding told largest raised without withAll agreedStart struck begun pairsOf pass pairedBy paired
 requestCases = refl

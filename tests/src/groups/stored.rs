@@ -98,7 +98,6 @@ fn table_place(report: &mut Report, file: &str, place: &Place) {
             let least = least_price_with(columns, *goal, requests, MOST_SETS);
             prices::compare(report, &answer, least, || format!("second solver, {name}, {requests:?}"));
         }
-        Question::Former => {}
     }
 }
 

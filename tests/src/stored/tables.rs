@@ -1,9 +1,8 @@
 //! The tables of the rules, which are proved there by computing. A table is read as `NAME : QUESTIONS ≡ VALUES`, with the questions
 //! `order INSTANCE`, `solved INSTANCE LIMIT` for the sum, or `found INSTANCE LIMIT` for the longest duty; with lists of agreed and absent
 //! columns `solvedWith INSTANCE LIMIT AGREED ABSENT` and `foundWith INSTANCE LIMIT AGREED ABSENT`, and with pairs of columns besides
-//! `solvedPaired INSTANCE LIMIT AGREED ABSENT PAIRS` and `foundPaired INSTANCE LIMIT AGREED ABSENT PAIRS`; and for the search as it was
-//! before 02, P9, with lists that overlap, `formerly GOAL INSTANCE LIMIT AGREED ABSENT`. Of the rest of these files only instances and
-//! numbers are read.
+//! `solvedPaired INSTANCE LIMIT AGREED ABSENT PAIRS` and `foundPaired INSTANCE LIMIT AGREED ABSENT PAIRS`. Of the rest of these files only
+//! instances and numbers are read.
 
 use super::names::{numbers, Names};
 use super::reader::{statements, texts, Reader, Token};
@@ -30,8 +29,6 @@ pub enum Question {
     Order,
     /// The answer of the search for a goal within a node limit, with lists of agreed and absent columns and of pairs.
     Search { goal: Goal, limit: u32, agreed: Vec<u16>, absent: Vec<u16>, pairs: Vec<u16> },
-    /// The same before 02, P9, with a column that is agreed and absent: none with 1 node, as P9 says.
-    Former,
 }
 
 /// A place of a table: an instance, what is asked, and the value that is stored, with its line.
@@ -82,7 +79,6 @@ impl Place {
                 let answer = plain::search_with(*goal, &file, *limit, Requests { agreed, absent, pairs }, &mut plan);
                 value(&answer, &plan[..answer.columns as usize])
             }
-            Question::Former => value(&Answer { outcome: NONE, nodes: 1, ..Answer::default() }, &[]),
         }
     }
 }
@@ -92,7 +88,7 @@ impl Table {
     pub fn remade(&self) -> String {
         let enclosed = |place: &Place| match place.question {
             Question::Order => format!("({})", place.remade()),
-            Question::Search { .. } | Question::Former => place.remade(),
+            Question::Search { .. } => place.remade(),
         };
         let lines: Vec<String> = self.places.iter().map(enclosed).collect();
         format!("    ({}\n    ∷ [])\n", lines.join("\n    ∷ "))
@@ -109,19 +105,17 @@ fn question(term: &Term, names: &Names) -> Option<(String, Question)> {
         let [agreed, absent, pairs] = lists.map(<[u16]>::to_vec);
         Some(Question::Search { goal, limit, agreed, absent, pairs })
     };
-    let overlap = |agreed: &[u16], absent: &[u16]| agreed.iter().any(|column| absent.contains(column));
-    let (name, asked) = match (&words[..], &lists[..]) {
-        (["order", name], []) => (name, Question::Order),
-        (["solved", name, limit], []) => (name, search(Goal::Sum, limit, [&[]; 3])?),
-        (["found", name, limit], []) => (name, search(Goal::Longest, limit, [&[]; 3])?),
-        (["solvedWith", name, limit], [agreed, absent]) => (name, search(Goal::Sum, limit, [agreed, absent, &[]])?),
-        (["foundWith", name, limit], [agreed, absent]) => (name, search(Goal::Longest, limit, [agreed, absent, &[]])?),
-        (["solvedPaired", name, limit], [agreed, absent, pairs]) => (name, search(Goal::Sum, limit, [agreed, absent, pairs])?),
-        (["foundPaired", name, limit], [agreed, absent, pairs]) => (name, search(Goal::Longest, limit, [agreed, absent, pairs])?),
-        (["formerly", "sum" | "longest", name, _], [agreed, absent]) if overlap(agreed, absent) => (name, Question::Former),
+    let asked = match (&words[..], &lists[..]) {
+        (["order", _], []) => Question::Order,
+        (["solved", _, limit], []) => search(Goal::Sum, limit, [&[]; 3])?,
+        (["found", _, limit], []) => search(Goal::Longest, limit, [&[]; 3])?,
+        (["solvedWith", _, limit], [agreed, absent]) => search(Goal::Sum, limit, [agreed, absent, &[]])?,
+        (["foundWith", _, limit], [agreed, absent]) => search(Goal::Longest, limit, [agreed, absent, &[]])?,
+        (["solvedPaired", _, limit], [agreed, absent, pairs]) => search(Goal::Sum, limit, [agreed, absent, pairs])?,
+        (["foundPaired", _, limit], [agreed, absent, pairs]) => search(Goal::Longest, limit, [agreed, absent, pairs])?,
         _ => return None,
     };
-    Some((name.to_string(), asked))
+    Some((words[1].to_string(), asked))
 }
 
 fn place(file: &str, asked: &Term, stored: &Term, names: &Names) -> Result<Place, String> {

@@ -1,8 +1,10 @@
-//! The cost of reader, writer, plan check and reducing on the largest file.
+//! The cost of reader, writer, plan check and reducing on the largest file, and of a search of one node with the longest lists.
 
 use std::hint::black_box;
 
 use spp_tests::files;
+use spp_tests::goal::Goal;
+use spp_tests::requests::Requests;
 use spp_tests::{engine, plain};
 
 use crate::measure::{self, keep};
@@ -17,10 +19,11 @@ struct Lists {
     lengths: [u16; 256],
     rows: [u8; 4096],
     out: [u8; 6152],
+    plan: [u16; 64],
 }
 
 fn lists() -> Box<Lists> {
-    Box::new(Lists { costs: [0; 256], lengths: [0; 256], rows: [0; 4096], out: [0; 6152] })
+    Box::new(Lists { costs: [0; 256], lengths: [0; 256], rows: [0; 4096], out: [0; 6152], plan: [0; 64] })
 }
 
 /// One line: the same call of the engine and of (a), each with lists of its own.
@@ -62,5 +65,19 @@ pub fn table() {
         |l| keep(engine::reduce(black_box(&file), &mut l.costs, &mut l.rows)),
         |l| keep(plain::reduce(black_box(&file), &mut l.costs, &mut l.rows)),
     );
+    longest_lists(&file);
     println!();
+}
+
+/// All duties absent, so that the root is dead, and all of them agreed too.
+fn longest_lists(file: &[u8]) {
+    let all: Vec<u16> = (1..=256).collect();
+    for (name, agreed) in [("search, 256 absent", &all[..0]), ("search, 256 agreed and absent", &all)] {
+        let asked = Requests { agreed, absent: &all, pairs: &[] };
+        line(
+            name,
+            |l| keep(engine::search_with(Goal::Sum, black_box(file), 1, asked, &mut l.plan)),
+            |l| keep(plain::search_with(Goal::Sum, black_box(file), 1, asked, &mut l.plan)),
+        );
+    }
 }
