@@ -89,7 +89,10 @@ take-requires : tie.Need-take-requires Inv-loop μ-loop
 take-requires c κs = takes-column _ _ _ _ (takes (c .before .before))
 
 loop-less : tie.Need-loop-less Inv-loop μ-loop
-loop-less c = omega (arith, c .before .before .before .before .before .before .before .before .loop-test .taken)
+loop-less c =
+    let f = c .before .before .before in
+    let t = f .before .before in
+    omega (arith, t .before .before .before .loop-test .taken)
 
 loop-again : tie.Need-loop-again Inv-loop μ-loop
 loop-again c =
