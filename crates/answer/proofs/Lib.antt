@@ -1,2 +1,4 @@
 mod Putting
 pub mod Given
+mod Order
+pub mod Demand

@@ -1,6 +1,8 @@
--- The search call's answer in 01's terms, and as the call's result and its plan list show it.
+-- The search call's answer in 01's terms, by the prices in the file, and the plan as its list shows it.
+use mathlib.Core.Bool.{Bool, true, false}
 use mathlib.Core.List.{List, [], map}
 use Prim.Native.Nat.{ℕ, suc}
+use lib.IntN.{ℤ, pos, _-ℤ_}
 use lib.ListN.{length, take}
 use Rattle.refusals.specs.Refusals.{Outcome, accepted, refused, numberOf}
 use Rattle.rules.specs.Search.{Incumbent, nothing, plan, Answer, best, none, stopped}
@@ -11,13 +13,13 @@ use Rattle.answer.specs.declared.SearchAnswer.the-variants.{Best, None, 
 -- a plan's price and number of duties, if there is a plan
 pub data Shown : Type 0 where
   no-plan : Shown
-  priced : ℕ → ℕ → Shown
+  priced : ℤ → ℕ → Shown
 
 -- the values that 01 names for each answer
 pub data Values : Type 0 where
-  is-best : ℕ → ℕ → ℕ → ℕ → Values  -- price, root floor, nodes, number of duties
+  is-best : ℤ → ℤ → ℕ → ℕ → Values  -- price, root floor, nodes, number of duties
   is-none : ℕ → Values  -- nodes
-  is-stopped : ℕ → ℕ → Shown → Values  -- root floor, nodes, and the kept plan's price and number of duties if there is one
+  is-stopped : ℤ → ℕ → Shown → Values  -- root floor, nodes, and the kept plan's price and number of duties if there is one
 
 -- what the call answers: these values, or a refusal with its number
 unfoldable pub searchOutcome : SearchAnswer → Outcome Values
@@ -27,15 +29,19 @@ searchOutcome (Stopped h) = accepted (is-stopped (h .bound) (h .nodes) no-plan)
 searchOutcome (StoppedWith f) = accepted (is-stopped (f .bound) (f .nodes) (priced (f .cost) (f .columns)))
 searchOutcome (Refused why) = refused (numberOf why)
 
--- the values of the rules' answer
-unfoldable pub shownOf : Incumbent → Shown
-shownOf nothing = no-plan
-shownOf (plan c js) = priced c (length js)
+-- a cost or a bound of the rules, less what the search added to the prices in the file (02, P10)
+abbrev pub lowered : ℕ → ℕ → ℤ
+lowered added c = pos c -ℤ pos added
 
-unfoldable pub valuesOf : Answer → Values
-valuesOf (best c b n js) = is-best c b n (length js)
-valuesOf (none n) = is-none n
-valuesOf (stopped k b n) = is-stopped b n (shownOf k)
+-- the values of the rules' answer, where so much was added
+unfoldable pub shownOf : ℕ → Incumbent → Shown
+shownOf added nothing = no-plan
+shownOf added (plan c js) = priced (lowered added c) (length js)
+
+unfoldable pub valuesOf : ℕ → Answer → Values
+valuesOf added (best c b n js) = is-best (lowered added c) (lowered added b) n (length js)
+valuesOf added (none n) = is-none n
+valuesOf added (stopped k b n) = is-stopped (lowered added b) n (shownOf added k)
 
 -- a plan's columns, numbered from 1; with no plan nothing is written
 unfoldable pub planNumbers : Incumbent → List ℕ
@@ -46,10 +52,23 @@ planNumbers (plan c js) = map suc js
 unfoldable pub listed : ℕ → List ℕ → List ℕ
 listed n list = columnsOf (take n list)
 
--- the answer as a reader of the call's result and of the plan list afterwards sees it
-unfoldable pub seen : SearchAnswer → List ℕ → Outcome Answer
-seen (Best f) list = accepted (best (f .cost) (f .bound) (f .nodes) (listed (f .columns) list))
-seen (None n) list = accepted (none n)
-seen (Stopped h) list = accepted (stopped nothing (h .bound) (h .nodes))
-seen (StoppedWith f) list = accepted (stopped (plan (f .cost) (listed (f .columns) list)) (f .bound) (f .nodes))
-seen (Refused why) list = refused (numberOf why)
+-- what an answer shows, its nodes, and whether it is none or stopped
+unfoldable pub shownIn : Values → Shown
+shownIn (is-best c b n k) = priced c k
+shownIn (is-none n) = no-plan
+shownIn (is-stopped b n s) = s
+
+unfoldable pub nodesIn : Values → ℕ
+nodesIn (is-best c b n k) = n
+nodesIn (is-none n) = n
+nodesIn (is-stopped b n s) = n
+
+unfoldable pub saysNone : Values → Bool
+saysNone (is-best c b n k) = false
+saysNone (is-none n) = true
+saysNone (is-stopped b n s) = false
+
+unfoldable pub saysStopped : Values → Bool
+saysStopped (is-best c b n k) = false
+saysStopped (is-none n) = false
+saysStopped (is-stopped b n s) = true

@@ -9,15 +9,15 @@ ghost use Rattle.refusals.specs.Refusals.{accepted, front};
 ghost use Rattle.rules.specs.Search.{shownBy};
 ghost use Rattle.tally.specs.Tally.{takenIn};
 ghost use Rattle.solver.specs.Solved.{solvedAnswer};
-ghost use Rattle.answer.specs.Answer.{searchOutcome, valuesOf, planNumbers, seen};
+ghost use Rattle.answer.specs.Answer.{searchOutcome, lowered, valuesOf, planNumbers};
 ghost use Rattle.answer.specs.Plan.{PlanFits, PlanRoom};
 
 // A plan that is shown.
 pub struct Found {
     // 01's price.
-    pub cost: u32,
+    pub cost: i64,
     // 01's root floor.
-    pub bound: u32,
+    pub bound: i64,
     pub nodes: u32,
     // How many columns the plan has.
     pub columns: usize,
@@ -26,7 +26,7 @@ pub struct Found {
 // The node limit is reached and no plan is kept.
 pub struct Halted {
     // 01's root floor.
-    pub bound: u32,
+    pub bound: i64,
     pub nodes: u32,
 }
 
@@ -62,18 +62,26 @@ pub fn put_plan(marks: &[u8; 256], columns: usize, plan: &mut [u16]) -> usize
     count
 }
 
-// The answer of a search that has ended, with the plan that it shows at the front of a list.
-pub fn give(done: Solved, columns: usize, plan: &mut [u16]) -> SearchAnswer
+// A cost or a bound, less what the search added (02, P10).
+fn lowered(cost: u32, added: u32) -> i64
+    ensures { λ r. ⌜ r ≡ lowered added cost ⌝ }
+{
+    (cost as i64) - (added as i64)
+}
+
+// The answer of a search that has ended, where it added so much to the price of every plan, with the plan that it shows at the front of a
+// list.
+pub fn give(done: Solved, columns: usize, added: u32, plan: &mut [u16]) -> SearchAnswer
     requires { ⌜ PlanFits done columns (length (now plan)) ⌝ }
-    ensures { λ r. ⌜ searchOutcome r ≡ accepted (valuesOf (solvedAnswer columns done)) ⌝ }
+    ensures { λ r. ⌜ searchOutcome r ≡ accepted (valuesOf added (solvedAnswer columns done)) ⌝ }
     ensures { λ _. ⌜ now (plan .exit) ≡ front (planNumbers (shownBy (solvedAnswer columns done))) (now (plan .entry)) ⌝ }
-    ensures { λ r. ⌜ seen r (now (plan .exit)) ≡ accepted (solvedAnswer columns done) ⌝ }
 {
     let tally = done.tally;
+    let bound = lowered(done.bound, added);
     if !tally.kept {
         if tally.stopped {
             return SearchAnswer::Stopped(Halted {
-                bound: done.bound,
+                bound: bound,
                 nodes: tally.nodes,
             });
         }
@@ -81,8 +89,8 @@ pub fn give(done: Solved, columns: usize, plan: &mut [u16]) -> SearchAnswer
     }
     let count = put_plan(&tally.plan, columns, plan);
     let found = Found {
-        cost: tally.cost,
-        bound: done.bound,
+        cost: lowered(tally.cost, added),
+        bound: bound,
         nodes: tally.nodes,
         columns: count,
     };

@@ -5,7 +5,7 @@ use mathlib.Core.List.{List}
 use Prim.Native.Nat.{ℕ, _+_, _-_, _≤_, _<_}
 use native.Mathlib.Omega.{arith}
 use lib.Dec.{leb}
-use lib.IntN.{ℤ, pos}
+use lib.IntN.{ℤ}
 use lib.ListN.{getD, take, drop}
 use mir.Syntax.{w32}
 use mir.Val.{SFits, toZ, ofZ}
@@ -15,7 +15,7 @@ use Rattle.refusals.specs.Refusals.{fine, fault, accepted, refused, unless}
 use Rattle.refusals.proofs.Laws.{stops-at, goes-on, passes, fails, both, asked, unless-fine, unless-fault}
 use Rattle.node.proofs.Members.{and-both}
 use Rattle.dutyfile.specs.declared.Entry.{Entry}
-use Rattle.dutyfile.specs.File.{rowsIn, columnsIn}
+use Rattle.dutyfile.specs.File.{rowsIn, columnsIn, costOf}
 use Rattle.dutyfile.specs.Faults.{rising, fileFault}
 use Rattle.dutyfile.proofs.Facts.{file-fine}
 use Rattle.dutyfile.proofs.Columns.{ColumnAt, column-at, body-rises, part-is}
@@ -88,9 +88,6 @@ module _ (file : List ℕ) (number : ℕ) (e : Entry) (f : Found file number e) 
       let p = passed file number (f .passes) in
       rw (f .entry) (column-at file (file-fine file (p .0) .walked) (number - 1) (omega (arith, p .1, p .2)))
 
-  pub found-fits : SFits w32 (pos (e .cost))
-  found-fits = record { sfits = omega (arith, found-column .cheap .most) }
-
   pub found-ready : (number - 1 < 256) × (rising 0 64 (take (e .start + e .size - e .start) (drop (e .start) file)) ≡ true)
   found-ready =
       let p = passed file number (f .passes) in
@@ -99,7 +96,7 @@ module _ (file : List ℕ) (number : ℕ) (e : Entry) (f : Found file number e) 
         rw (part-is file a (number - 1) e (omega (arith, p .1, p .2)) (f .entry)) (body-rises file a (number - 1)),
       )
 
-  pub found-moved : (way : Way) (d : Desk) → moved way (number - 1) (take (e .start + e .size - e .start) (drop (e .start) file)) (pos (e .cost)) d ≡ movedBy way file number d
+  pub found-moved : (way : Way) (d : Desk) → moved way (number - 1) (take (e .start + e .size - e .start) (drop (e .start) file)) (costOf e) d ≡ movedBy way file number d
   unfolding movedBy
   found-moved way d =
       let p = passed file number (f .passes) in

@@ -35,7 +35,7 @@ after (refused n) new old = old
 
 -- the column with this number moved, with its rows and its cost in the file
 unfoldable pub movedBy : Way → List ℕ → ℕ → Desk → Desk
-movedBy way file number d = moved way (number - 1) (body (instance (parse file) .matrix) (number - 1)) (pos (getD (parse file .costs) (number - 1) 0)) d
+movedBy way file number d = moved way (number - 1) (body (instance (parse file) .matrix) (number - 1)) (getD (parse file .costs) (number - 1) (pos 0)) d
 
 -- the desk after a step
 unfoldable pub stepped : Way → List ℕ → ℕ → Desk → Desk

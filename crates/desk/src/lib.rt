@@ -138,7 +138,7 @@ fn move_entry(
 {
     let start = e.start as usize;
     let end = start + e.size as usize;
-    let cost = e.cost as i32;
+    let cost = signed::from_bits(e.cost);
     move_column(
         way,
         number as usize - 1,

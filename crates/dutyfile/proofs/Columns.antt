@@ -5,13 +5,15 @@ use mathlib.Core.List.{List, [], _∷_, map}
 use Prim.Native.Nat.{ℕ, zero, suc, _+_, _-_, _≤_, _<_}
 use native.Mathlib.Nat.{add-zero}
 use native.Mathlib.Omega.{arith}
+use lib.IntN.{pos}
 use lib.ListN.{length, getD, take, drop, length-map, List·getD-map}
 use lib.Seq.{drop-drop}
 use Rattle.refusals.specs.Refusals.{fine}
 use Rattle.node.specs.Matrix.{width, body}
+use Rattle.dutyfile.specs.declared.Edition.{Edition}
 use Rattle.dutyfile.specs.declared.Entry.{Entry}
-use Rattle.dutyfile.specs.File.{rowsIn, columnsIn, bodiesAt, entryOf, entries, costOf, sizeOf, parse, sum, bodies, instance}
-use Rattle.dutyfile.specs.Faults.{rising, entriesFault, rowsFault}
+use Rattle.dutyfile.specs.File.{editionIn, rowsIn, columnsIn, bodiesAt, entryOf, entries, costOf, sizeOf, parse, sum, bodies, instance}
+use Rattle.dutyfile.specs.Faults.{rising, isCost, entriesFault, rowsFault}
 use Rattle.dutyfile.proofs.Entries.{length-entries, length-lengths, entries-at}
 use Rattle.dutyfile.proofs.Facts.{Within, Column, column-fine, entry-fine, Walked, Accepted}
 use Rattle.dutyfile.proofs.Rising.{rising-wider, bodies-rise}
@@ -21,20 +23,20 @@ abbrev before : ℕ → List Entry → ℕ
 before j es = sum (take j (map sizeOf es))
 
 -- entry j of entries that pass
-record Placed (m n t j : ℕ) (es : List Entry) (e : Entry) : Type 0 where
-  column : Column m (t + before j es) (e .cost) (e .size)
+record Placed (ed : Edition) (m n t j : ℕ) (es : List Entry) (e : Entry) : Type 0 where
+  column : Column ed m (t + before j es) (costOf e) (e .size)
   start : e .start ≡ bodiesAt n + t + before j es
   within : before j es + e .size ≤ sum (map sizeOf es)
 
-placed : (m n t j : ℕ) (es : List Entry) (d : Entry) → entriesFault m n t es ≡ fine → j < length es → Placed m n t j es (getD es j d)
+placed : (ed : Edition) (m n t j : ℕ) (es : List Entry) (d : Entry) → entriesFault ed m n t es ≡ fine → j < length es → Placed ed m n t j es (getD es j d)
 unfolding sum
-placed m n t j [] d h l = absurd (omega arith)
-placed m n t zero (e ∷ es) d h l =
-    let f = entry-fine m n t e es h in
-    record { column = rw add-zero (column-fine m t (e .cost) (e .size) (f .column)); start = omega (arith, f .start); within = omega arith }
-placed m n t (suc j) (e ∷ es) d h l =
-    let f = entry-fine m n t e es h in
-    let p = placed m n (t + e .size) j es d (f .rest) (omega arith) in
+placed ed m n t j [] d h l = absurd (omega arith)
+placed ed m n t zero (e ∷ es) d h l =
+    let f = entry-fine ed m n t e es h in
+    record { column = rw add-zero (column-fine ed m t (costOf e) (e .size) (f .column)); start = omega (arith, f .start); within = omega arith }
+placed ed m n t (suc j) (e ∷ es) d h l =
+    let f = entry-fine ed m n t e es h in
+    let p = placed ed m n (t + e .size) j es d (f .rest) (omega arith) in
     let q : t + e .size + before j es ≡ t + (e .size + before j es) = omega arith in
     record { column = rw q at (p .column); start = omega (arith, p .start); within = omega (arith, p .within) }
 
@@ -55,10 +57,11 @@ body-at (l ∷ ls) rs zero h = refl
 body-at (l ∷ ls) rs (suc j) h = body-at ls (drop l rs) j (omega arith) ∙ ap (take (getD ls j 0)) (drop-drop (sum (take j ls)) l rs)
 
 pub record ColumnAt (s : List ℕ) (j : ℕ) (e : Entry) : Type 0 where
-  pub cost : getD (parse s .costs) j 0 ≡ e .cost
+  pub cost : getD (parse s .costs) j (pos 0) ≡ costOf e
+  pub size : getD (parse s .lengths) j 0 ≡ e .size
   pub body : getD (bodies (parse s .lengths) (parse s .numbers)) j [] ≡ take (e .size) (drop (e .start) s)
   pub inside : e .start + e .size ≤ length s
-  pub cheap : Within 1 1000000 (e .cost)
+  pub cheap : isCost (editionIn s) (costOf e) ≡ true
   pub sized : Within 1 (rowsIn s) (e .size)
 
 pub column-at : (s : List ℕ) → Walked s → (j : ℕ) → j < columnsIn s → ColumnAt s j (entryOf (drop (bodiesAt j) s))
@@ -67,12 +70,13 @@ column-at s w j h = go (entryOf (drop (bodiesAt j) s)) (entries-at s j (entryOf 
   where
     go : (e : Entry) → getD (entries s) j (entryOf []) ≡ e → ColumnAt s j e
     go e is =
-        let p : Placed (rowsIn s) (columnsIn s) 0 j (entries s) e =
-        rw is at (placed (rowsIn s) (columnsIn s) 0 j (entries s) (entryOf []) (w .contents) (rw (length-entries s) h)) in
+        let p : Placed (editionIn s) (rowsIn s) (columnsIn s) 0 j (entries s) e =
+        rw is at (placed (editionIn s) (rowsIn s) (columnsIn s) 0 j (entries s) (entryOf []) (w .contents) (rw (length-entries s) h)) in
+        let z : getD (map sizeOf (entries s)) j 0 ≡ e .size = List·getD-map sizeOf (entries s) j (entryOf []) ∙ ap sizeOf is in
         record {
           cost = List·getD-map costOf (entries s) j (entryOf []) ∙ ap costOf is;
+          size = z;
           body =
-              let z : getD (map sizeOf (entries s)) j 0 ≡ e .size = List·getD-map sizeOf (entries s) j (entryOf []) ∙ ap sizeOf is in
               let a : bodiesAt (columnsIn s) + before j (entries s) ≡ e .start = omega (arith, p .start) in
               body-at (map sizeOf (entries s)) (drop (bodiesAt (columnsIn s)) s) j (rw (length-map (entries s) sizeOf, length-entries s) h)
               ∙ rw (z, drop-drop (before j (entries s)) (bodiesAt (columnsIn s)) s, a);

@@ -1,19 +1,22 @@
 -- What it means that the tests pass: the facts about the numbers, and back.
 use mathlib.Core.Path.{_≡_, _∙_}
-use mathlib.Core.Bool.{true}
+use mathlib.Core.Bool.{true, _||_}
 use mathlib.Core.List.{List, [], _∷_, map}
 use Prim.Native.Nat.{ℕ, _+_, _≤_}
 use native.Mathlib.Omega.{arith}
 use lib.Dec.{leb}
+use lib.IntN.{ℤ}
 use lib.ListN.{length, take, length-drop}
 use borrow.Author.Tests.{leb-true, eqb-true, le-leb, eq-eqb}
 use Rattle.endian.specs.Bytes.{same}
 use Rattle.refusals.specs.Refusals.{Fault, fine, ask, _then_}
 use Rattle.refusals.proofs.Laws.{both, asked, goes-on, passes}
 use Rattle.node.proofs.Members.{and-both}
+use Rattle.dutyfile.specs.declared.Edition.{Edition}
+use Rattle.dutyfile.specs.declared.Edition.the-variants.{Spp1, Spp2}
 use Rattle.dutyfile.specs.declared.Entry.{Entry}
-use Rattle.dutyfile.specs.File.{magic, rowsIn, columnsIn, bodiesAt, entries, sizeOf, parse, sum}
-use Rattle.dutyfile.specs.Faults.{within, countsFault, columnFault, columnsFault, entryFault, entriesFault, headerFault, contentsFault, endFault, rowsFault, fileFault}
+use Rattle.dutyfile.specs.File.{magic, editionIn, rowsIn, columnsIn, bodiesAt, entries, costOf, sizeOf, parse, sum}
+use Rattle.dutyfile.specs.Faults.{within, isCost, countsFault, columnFault, columnsFault, entryFault, entriesFault, headerFault, contentsFault, endFault, rowsFault, fileFault}
 
 pub all-pass : {a b : Fault} → a ≡ fine → b ≡ fine → (a then b) ≡ fine
 all-pass {b = b} e f = goes-on b e ∙ f
@@ -44,57 +47,57 @@ counts-fine m n e =
     record { rows = ask-within 1 64 m 2 (b .0); columns = ask-within 1 256 n 2 (b .1) }
 
 -- a column
-pub record Column (m t c l : ℕ) : Type 0 where
-  pub cost : Within 1 1000000 c
+pub record Column (ed : Edition) (m t : ℕ) (c : ℤ) (l : ℕ) : Type 0 where
+  pub cost : isCost ed c ≡ true
   pub size : Within 1 m l
   pub total : t + l ≤ 4096
 
-pub column-fine : (m t c l : ℕ) → columnFault m t c l ≡ fine → Column m t c l
+pub column-fine : (ed : Edition) (m t : ℕ) (c : ℤ) (l : ℕ) → columnFault ed m t c l ≡ fine → Column ed m t c l
 unfolding columnFault
-column-fine m t c l e =
+column-fine ed m t c l e =
     let b = both _ _ e in
     let d = both _ _ (b .1) in
-    record { cost = ask-within 1 1000000 c 4 (b .0); size = ask-within 1 m l 5 (d .0); total = leb-true _ _ (asked _ 6 (d .1)) }
+    record { cost = asked _ 4 (b .0); size = ask-within 1 m l 5 (d .0); total = leb-true _ _ (asked _ 6 (d .1)) }
 
 -- an entry, and the entries after it
-pub record Entered (m n t : ℕ) (e : Entry) (es : List Entry) : Type 0 where
-  pub column : columnFault m t (e .cost) (e .size) ≡ fine
+pub record Entered (ed : Edition) (m n t : ℕ) (e : Entry) (es : List Entry) : Type 0 where
+  pub column : columnFault ed m t (costOf e) (e .size) ≡ fine
   pub start : e .start ≡ bodiesAt n + t
-  pub rest : entriesFault m n (t + e .size) es ≡ fine
+  pub rest : entriesFault ed m n (t + e .size) es ≡ fine
 
-pub entry-fine : (m n t : ℕ) (e : Entry) (es : List Entry) → entriesFault m n t (e ∷ es) ≡ fine → Entered m n t e es
+pub entry-fine : (ed : Edition) (m n t : ℕ) (e : Entry) (es : List Entry) → entriesFault ed m n t (e ∷ es) ≡ fine → Entered ed m n t e es
 unfolding entriesFault entryFault
-entry-fine m n t e es h =
+entry-fine ed m n t e es h =
     let b = both _ _ h in
     let d = both _ _ (b .0) in
     record { column = d .0; start = eqb-true _ _ (asked _ 7 (d .1)); rest = b .1 }
 
-pub fine-entry : (m n t : ℕ) (e : Entry) (es : List Entry) → Entered m n t e es → entriesFault m n t (e ∷ es) ≡ fine
+pub fine-entry : (ed : Edition) (m n t : ℕ) (e : Entry) (es : List Entry) → Entered ed m n t e es → entriesFault ed m n t (e ∷ es) ≡ fine
 unfolding entriesFault entryFault
-fine-entry m n t e es h = all-pass (all-pass (h .column) (passes 7 (eq-eqb _ _ (h .start)))) (h .rest)
+fine-entry ed m n t e es h = all-pass (all-pass (h .column) (passes 7 (eq-eqb _ _ (h .start)))) (h .rest)
 
 -- entries that pass have at most 4,096 rows in all
-pub entries-small : (m n t : ℕ) (es : List Entry) → entriesFault m n t es ≡ fine → t ≤ 4096 → t + sum (map sizeOf es) ≤ 4096
+pub entries-small : (ed : Edition) (m n t : ℕ) (es : List Entry) → entriesFault ed m n t es ≡ fine → t ≤ 4096 → t + sum (map sizeOf es) ≤ 4096
 unfolding sum
-entries-small m n t [] p h = omega arith
-entries-small m n t (e ∷ es) p h =
-    let f = entry-fine m n t e es p in
-    omega (arith, entries-small m n (t + e .size) es (f .rest) (column-fine m t (e .cost) (e .size) (f .column) .total))
+entries-small ed m n t [] p h = omega arith
+entries-small ed m n t (e ∷ es) p h =
+    let f = entry-fine ed m n t e es p in
+    omega (arith, entries-small ed m n (t + e .size) es (f .rest) (column-fine ed m t (costOf e) (e .size) (f .column) .total))
 
 -- columns that pass have at most 4,096 rows in all
-pub columns-small : (m t : ℕ) (cs ls : List ℕ) → length ls ≡ length cs → t ≤ 4096 → columnsFault m t cs ls ≡ fine → t + sum ls ≤ 4096
+pub columns-small : (ed : Edition) (m t : ℕ) (cs : List ℤ) (ls : List ℕ) → length ls ≡ length cs → t ≤ 4096 → columnsFault ed m t cs ls ≡ fine → t + sum ls ≤ 4096
 unfolding sum columnsFault
-columns-small m t [] [] e h p = omega arith
-columns-small m t [] (l ∷ ls) e h p = absurd (omega arith)
-columns-small m t (c ∷ cs) [] e h p = absurd (omega arith)
-columns-small m t (c ∷ cs) (l ∷ ls) e h p =
+columns-small ed m t [] [] e h p = omega arith
+columns-small ed m t [] (l ∷ ls) e h p = absurd (omega arith)
+columns-small ed m t (c ∷ cs) [] e h p = absurd (omega arith)
+columns-small ed m t (c ∷ cs) (l ∷ ls) e h p =
     let b = both _ _ p in
-    omega (arith, columns-small m (t + l) cs ls (omega arith) (column-fine m t c l (b .0) .total) (b .1))
+    omega (arith, columns-small ed m (t + l) cs ls (omega arith) (column-fine ed m t c l (b .0) .total) (b .1))
 
 -- the header
 pub record Header (s : List ℕ) : Type 0 where
   pub long : 8 ≤ length s
-  pub marked : same (take 4 s) magic ≡ true
+  pub marked : (same (take 4 s) (magic Spp1) || same (take 4 s) (magic Spp2)) ≡ true
   pub counts : Counts (rowsIn s) (columnsIn s)
   pub contents : bodiesAt (columnsIn s) ≤ length s
 
@@ -114,7 +117,7 @@ header-fine s e =
 -- the header and the contents, with the file's length as they say
 pub record Walked (s : List ℕ) : Type 0 where
   pub header : Header s
-  pub contents : entriesFault (rowsIn s) (columnsIn s) 0 (entries s) ≡ fine
+  pub contents : entriesFault (editionIn s) (rowsIn s) (columnsIn s) 0 (entries s) ≡ fine
   pub end : length s ≡ bodiesAt (columnsIn s) + sum (parse s .lengths)
 
 pub walk-fine : (s : List ℕ) → headerFault s ≡ fine → contentsFault s ≡ fine → endFault s ≡ fine → Walked s
@@ -123,7 +126,7 @@ walk-fine s h c e = record { header = header-fine s h; contents = c; end = eqb-t
 
 pub contents-small : (s : List ℕ) → contentsFault s ≡ fine → sum (parse s .lengths) ≤ 4096
 unfolding contentsFault parse
-contents-small s c = omega (arith, entries-small (rowsIn s) (columnsIn s) 0 (entries s) c (omega arith))
+contents-small s c = omega (arith, entries-small (editionIn s) (rowsIn s) (columnsIn s) 0 (entries s) c (omega arith))
 
 -- there are as many row numbers as the lengths say
 pub length-numbers : (s : List ℕ) → Walked s → length (parse s .numbers) ≡ sum (parse s .lengths)

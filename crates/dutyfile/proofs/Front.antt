@@ -10,7 +10,7 @@ use lib.ListN.{length, getD, take, drop}
 use lib.Seq.{length-take-le, take-all, take-take, getD-take, getD-drop}
 use Rattle.refusals.specs.Refusals.{fine, fault}
 use Rattle.refusals.proofs.Laws.{stops-at, passes, fails, then-same}
-use Rattle.dutyfile.specs.File.{rowsIn, columnsIn, bodiesAt, entryOf, entriesOf, entries, parse, sum}
+use Rattle.dutyfile.specs.File.{editionIn, rowsIn, columnsIn, bodiesAt, entryOf, entriesOf, entries, parse, sum}
 use Rattle.dutyfile.specs.Faults.{headerFault, contentsFault, endFault, fileFault}
 use Rattle.dutyfile.proofs.Facts.{counts-fine, header-fine, contents-small, file-fine}
 
@@ -51,6 +51,10 @@ module _ (k : ℕ) (s : List ℕ) (most : 6152 < k) (long : k < length s) where
   columns-front : columnsIn (take k s) ≡ columnsIn s
   columns-front = rw (at-front 6 (omega arith), at-front 7 (omega arith))
 
+  edition-front : editionIn (take k s) ≡ editionIn s
+  unfolding editionIn
+  edition-front = rw (take-take 4 k s (omega arith))
+
   entries-front : columnsIn s ≤ 256 → entries (take k s) ≡ entries s
   unfolding entries
   entries-front h =
@@ -69,7 +73,7 @@ module _ (k : ℕ) (s : List ℕ) (most : 6152 < k) (long : k < length s) where
 
   contents-front : headerFault s ≡ fine → contentsFault (take k s) ≡ contentsFault s
   unfolding contentsFault
-  contents-front h = rw (rows-front, columns-front, entries-front (header-fine s h .counts .columns .most))
+  contents-front h = rw (edition-front, rows-front, columns-front, entries-front (header-fine s h .counts .columns .most))
 
   longer-front : fileFault (take k s) ≡ fileFault s
   unfolding fileFault

@@ -1,16 +1,16 @@
 -- A list that rises, as a loop meets it: what is left of it from a place on, a step further and at its end.
 use mathlib.Core.Path.{_≡_, refl}
-use mathlib.Core.Bool.{Bool, true, false, cond, _&&_}
+use mathlib.Core.Bool.{Bool, true, false, cond, _&&_, _||_}
 use mathlib.Core.List.{List, [], _∷_, map}
 use Prim.Native.Nat.{ℕ, zero, suc, _+_, _≤_, _<_}
 use native.Mathlib.Omega.{arith}
-use lib.Dec.{leb, ltb, eqb·suc-suc}
-use borrow.Author.Tests.{lt-ltb, le-ltb, le-leb, lt-leb, ltb-true, leb-true, ne-eqb}
+use lib.Dec.{leb, ltb, eqb, eqb·suc-suc}
+use borrow.Author.Tests.{lt-ltb, le-ltb, le-leb, lt-leb, ltb-true, leb-true, ne-eqb, eqb-true}
 use lib.ListN.{length, getD, drop, drop-of-length-le}
 use Rattle.node.proofs.Loops.{drop-step}
 use Rattle.refusals.specs.Refusals.{fine, fault}
 use Rattle.refusals.proofs.Laws.{stops-at, goes-on, passes, fails, both, asked}
-use Rattle.node.specs.Lists.{member, keep, from}
+use Rattle.node.specs.Lists.{member, keep, from, on}
 use Rattle.node.proofs.Members.{and-both}
 use Rattle.dutyfile.specs.Faults.{rising, bodiesFault}
 
@@ -106,3 +106,14 @@ pub numbers-member : (j : ℕ) (js : List ℕ) → member (suc j) (map suc js) �
 unfolding member
 numbers-member j [] = refl
 numbers-member j (x ∷ xs) = rw (eqb·suc-suc j x, numbers-member j xs)
+
+-- a number among those after y, or y itself
+pub member-suc : (y high : ℕ) (xs : List ℕ) (j v : ℕ) → rising (suc y) high xs ≡ true →
+    on (member (suc j) (suc y ∷ xs)) v ≡ on (eqb j y) v + on (member (suc j) xs) v
+unfolding member
+member-suc y high xs j v e =
+    rw (eqb·suc-suc j y) (either (eqb j y) (member (suc j) xs) (λ q. rising-none (suc y) high xs (suc j) e (omega (arith, eqb-true j y q))))
+  where
+    either : (a b : Bool) → (a ≡ true → b ≡ false) → on (a || b) v ≡ on a v + on b v
+    either true b h = rw (h refl) (omega arith)
+    either false b h = omega arith

@@ -3,14 +3,21 @@ use refusals::Check;
 use refusals::Refusal;
 ghost use mathlib.Core.Path.{_≡_};
 ghost use Prim.Native.Nat.{_+_, _*_, _≤_};
-ghost use lib.ListN.{length, drop, replicate};
+ghost use lib.ListN.{length, take, drop, replicate};
+ghost use Rattle.endian.specs.Bytes.{same};
 ghost use Rattle.refusals.specs.Refusals.{faultOf};
-ghost use Rattle.dutyfile.specs.File.{rowsIn, columnsIn, entryOf, bodiesAt};
-ghost use Rattle.dutyfile.specs.Faults.{columnFault, countsFault, entryFault, rising};
+ghost use Rattle.dutyfile.specs.File.{magic, editionIn, rowsIn, columnsIn, entryOf, bodiesAt};
+ghost use Rattle.dutyfile.specs.Faults.{leastCost, isCost, columnFault, countsFault, entryFault, rising};
+
+// What a file begins with: SPP1, or SPP2 (02, P10), whose costs may be 0 and below.
+pub enum Edition {
+    Spp1,
+    Spp2,
+}
 
 // A contents entry.
 pub struct Entry {
-    // 01's price.
+    // The 32 bits of 01's price.
     pub cost: u32,
     // Where the body starts, from the file's first byte.
     pub start: u16,
@@ -18,8 +25,9 @@ pub struct Entry {
     pub size: u16,
 }
 
-// What an accepted file holds: 01's m, n and t.
+// What an accepted file holds: its edition, and 01's m, n and t.
 pub struct Shape {
+    pub edition: Edition,
     pub rows: usize,
     pub columns: usize,
     pub entries: usize,
@@ -37,6 +45,29 @@ pub fn file_space() -> [u8; 6153]
     ensures { λ r. ⌜ r ≡ replicate 6153 0 ⌝ }
 {
     [0u8; 6153]
+}
+
+// Whether a file begins with SPP1, or with SPP2.
+pub fn begins(file: &[u8], edition: Edition) -> bool
+    ensures { λ r. ⌜ r ≡ same (take 4 (now (file .entry))) (magic edition) ⌝ }
+{
+    if file.len() < 4 {
+        return false;
+    }
+    match edition {
+        Edition::Spp1 => endian::equal(&file[0..4], b"SPP1"),
+        Edition::Spp2 => endian::equal(&file[0..4], b"SPP2"),
+    }
+}
+
+// The edition of a file that begins with either.
+pub fn edition_in(file: &[u8]) -> Edition
+    ensures { λ r. ⌜ r ≡ editionIn (now (file .entry)) ⌝ }
+{
+    if begins(file, Edition::Spp2) {
+        return Edition::Spp2;
+    }
+    Edition::Spp1
 }
 
 // The number of rows, 01's m.
@@ -87,15 +118,32 @@ pub fn check_counts(rows: usize, columns: usize) -> Check
     Check::Passed
 }
 
-// Tests 4, 5 and 6: a column of `size` rows, after columns with `total` rows in all.
-pub fn check_column(rows: usize, total: usize, cost: u32, size: u16) -> Check
-    requires { ⌜ total ≤ 4096 ⌝ }
-    ensures { λ r. ⌜ faultOf r ≡ columnFault rows total cost size ⌝ }
+// The least cost of a column.
+fn least_cost(edition: Edition) -> i32
+    ensures { λ r. ⌜ r ≡ leastCost edition ⌝ }
 {
-    if cost < 1 {
-        return Check::Failed(Refusal::Cost);
+    match edition {
+        Edition::Spp1 => 1,
+        Edition::Spp2 => -1000000,
     }
-    if 1000000 < cost {
+}
+
+// Whether a number is a cost.
+fn is_cost(edition: Edition, cost: i32) -> bool
+    ensures { λ r. ⌜ r ≡ isCost edition cost ⌝ }
+{
+    if cost < least_cost(edition) {
+        return false;
+    }
+    cost <= 1000000
+}
+
+// Tests 4, 5 and 6: a column of `size` rows, after columns with `total` rows in all.
+pub fn check_column(edition: Edition, rows: usize, total: usize, cost: i32, size: u16) -> Check
+    requires { ⌜ total ≤ 4096 ⌝ }
+    ensures { λ r. ⌜ faultOf r ≡ columnFault edition rows total cost size ⌝ }
+{
+    if !is_cost(edition, cost) {
         return Check::Failed(Refusal::Cost);
     }
     let size = size as usize;
@@ -112,11 +160,12 @@ pub fn check_column(rows: usize, total: usize, cost: u32, size: u16) -> Check
 }
 
 // Tests 4, 5, 6 and 7: an entry of a file with so many columns, after bodies of `total` rows.
-pub fn check_entry(rows: usize, columns: usize, total: usize, e: Entry) -> Check
+pub fn check_entry(edition: Edition, rows: usize, columns: usize, total: usize, e: Entry) -> Check
     requires { ⌜ (columns ≤ 256) × (total ≤ 4096) ⌝ }
-    ensures { λ r. ⌜ faultOf r ≡ entryFault rows columns total e ⌝ }
+    ensures { λ r. ⌜ faultOf r ≡ entryFault edition rows columns total e ⌝ }
 {
-    let column = check_column(rows, total, e.cost, e.size);
+    let cost = signed::from_bits(e.cost);
+    let column = check_column(edition, rows, total, cost, e.size);
     match column {
         Check::Failed(_) => column,
         Check::Passed => {

@@ -1,4 +1,4 @@
--- The reader's answer in 01's terms: m, n and t, or a refusal with its number.
+-- The reader's answer in 01's terms: the edition, m, n and t, or a refusal with its number.
 use Rattle.refusals.specs.Refusals.{Outcome, accepted, refused, numberOf}
 use Rattle.dutyfile.specs.declared.Shape.{Shape}
 use Rattle.examine.specs.declared.ReadAnswer.{ReadAnswer}

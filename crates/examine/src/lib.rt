@@ -1,12 +1,17 @@
 // The tests of a file, 1 to 9, in 01's sequence.
 use dutyfile::Contents;
+use dutyfile::Edition;
 use dutyfile::Shape;
 use refusals::Check;
 use refusals::Refusal;
 ghost use mathlib.Core.Path.{_≡_};
+ghost use mathlib.Core.Bool.{_||_};
 ghost use Prim.Native.Nat.{_+_, _*_};
+ghost use lib.ListN.{take};
+ghost use Rattle.endian.specs.Bytes.{same};
 ghost use Rattle.refusals.specs.Refusals.{fine, faultOf, unless};
-ghost use Rattle.dutyfile.specs.File.{parse, shape, sum};
+ghost use Rattle.dutyfile.specs.declared.Edition.the-variants.{Spp1, Spp2};
+ghost use Rattle.dutyfile.specs.File.{magic, parse, shape, sum};
 ghost use Rattle.dutyfile.specs.Faults.{headerFault, contentsFault, endFault, rowsFault, fileFault};
 ghost use Rattle.dutyfile.specs.Answer.{contentsOutcome};
 ghost use Rattle.examine.specs.Answer.{readOutcome};
@@ -17,6 +22,16 @@ pub enum ReadAnswer {
     Refused(Refusal),
 }
 
+// Whether a file begins with SPP1 or SPP2.
+fn is_marked(file: &[u8]) -> bool
+    ensures { λ r. ⌜ r ≡ (same (take 4 (now (file .entry))) (magic Spp1) || same (take 4 (now (file .entry))) (magic Spp2)) ⌝ }
+{
+    if dutyfile::begins(file, Edition::Spp1) {
+        return true;
+    }
+    dutyfile::begins(file, Edition::Spp2)
+}
+
 // Tests 1, 2 and 3: the first 8 bytes, and a file that ends inside its contents.
 fn check_header(file: &[u8]) -> Check
     ensures { λ r. ⌜ faultOf r ≡ headerFault (now (file .entry)) ⌝ }
@@ -24,7 +39,7 @@ fn check_header(file: &[u8]) -> Check
     if file.len() < 8 {
         return Check::Failed(Refusal::Magic);
     }
-    if !endian::equal(&file[0..4], b"SPP1") {
+    if !is_marked(file) {
         return Check::Failed(Refusal::Magic);
     }
     let columns = dutyfile::column_count(file);
@@ -45,6 +60,7 @@ fn check_contents(file: &[u8]) -> Contents
     requires { ⌜ headerFault (now file) ≡ fine ⌝ }
     ensures { λ r. ⌜ contentsOutcome r ≡ unless (contentsFault (now (file .entry))) (sum (parse (now (file .entry)) .lengths)) ⌝ }
 {
+    let edition = dutyfile::edition_in(file);
     let rows = dutyfile::row_count(file);
     let columns = dutyfile::column_count(file);
     let table = contents::entries(file, columns);
@@ -52,7 +68,7 @@ fn check_contents(file: &[u8]) -> Contents
     let mut j = 0;
     while j < columns {
         let e = table[j];
-        let tested = dutyfile::check_entry(rows, columns, total, e);
+        let tested = dutyfile::check_entry(edition, rows, columns, total, e);
         if let Check::Failed(why) = tested {
             return Contents::Failed(why);
         }
@@ -100,6 +116,7 @@ fn examine_bodies(file: &[u8], total: usize) -> ReadAnswer
     match tested {
         Check::Failed(why) => ReadAnswer::Refused(why),
         Check::Passed => ReadAnswer::Accepted(Shape {
+            edition: dutyfile::edition_in(file),
             rows: dutyfile::row_count(file),
             columns: columns,
             entries: total,

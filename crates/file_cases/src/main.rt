@@ -1,5 +1,6 @@
 // Reads duty files from standard input, each on a line as a name and its bytes in hexadecimal, writes back the lists of an accepted
-// one, and prints what this comes to; then tries lists of other lengths, and offered plans.
+// one by the writer of its edition, and prints what this comes to; then tries lists of other lengths, and offered plans.
+use dutyfile::Edition;
 use examine::ReadAnswer;
 use refusals::Refusal;
 use verify::CheckAnswer;
@@ -19,6 +20,15 @@ fn say_value(n: u32) {
     io::print_decimal(1, n as u64);
 }
 
+fn say_cost(cost: i32) {
+    if cost < 0 {
+        say(b" -");
+    } else {
+        say(b" ");
+    }
+    io::print_decimal(1, signed::magnitude(signed::wide(cost)));
+}
+
 fn say_half(n: u16) {
     say_number(n as usize);
 }
@@ -32,10 +42,32 @@ fn say_refusal(why: Refusal) {
     say_value(refusals::number(why));
 }
 
+// Writes lists by the writer of an edition.
+fn write_by(
+    edition: Edition,
+    rows: u16,
+    costs: &[i32],
+    lengths: &[u16],
+    numbers: &[u8],
+    out: &mut [u8],
+) -> WriteAnswer {
+    match edition {
+        Edition::Spp1 => writer::write(rows, costs, lengths, numbers, out),
+        Edition::Spp2 => writer::write2(rows, costs, lengths, numbers, out),
+    }
+}
+
 // Writes lists and compares the file with the one that they were read from.
-fn write_back(file: &[u8], rows: u16, costs: &[u32], lengths: &[u16], numbers: &[u8]) {
+fn write_back(
+    file: &[u8],
+    edition: Edition,
+    rows: u16,
+    costs: &[i32],
+    lengths: &[u16],
+    numbers: &[u8],
+) {
     let mut out = [0u8; 6152];
-    match writer::write(rows, costs, lengths, numbers, &mut out) {
+    match write_by(edition, rows, costs, lengths, numbers, &mut out) {
         WriteAnswer::Written(size) => {
             if size <= 6152 {
                 if endian::equal(&out[0..size], file) {
@@ -51,11 +83,12 @@ fn write_back(file: &[u8], rows: u16, costs: &[u32], lengths: &[u16], numbers: &
 
 // Reads a file, and writes back what it holds.
 fn show(file: &[u8]) {
-    let mut costs = [0u32; 256];
+    let mut costs = [0i32; 256];
     let mut lengths = [0u16; 256];
     let mut rows = [0u8; 4096];
     match reader::read(file, &mut costs, &mut lengths, &mut rows) {
         ReadAnswer::Accepted(found) => {
+            let edition = found.edition;
             let m = found.rows;
             let n = found.columns;
             let t = found.entries;
@@ -66,7 +99,14 @@ fn show(file: &[u8]) {
             if m <= 64 {
                 if n <= 256 {
                     if t <= 4096 {
-                        write_back(file, m as u16, &costs[0..n], &lengths[0..n], &rows[0..t]);
+                        write_back(
+                            file,
+                            edition,
+                            m as u16,
+                            &costs[0..n],
+                            &lengths[0..n],
+                            &rows[0..t],
+                        );
                     }
                 }
             }
@@ -100,7 +140,7 @@ fn show_input() {
 }
 
 // Two columns, {1, 2} at 3 and {1} at 4, into lists of these numbers of places; then what the lists hold.
-fn read_short(costs: &mut [u32], lengths: &mut [u16], rows: &mut [u8]) {
+fn read_short(costs: &mut [i32], lengths: &mut [u16], rows: &mut [u8]) {
     let file =
         b"SPP1\x02\x00\x02\x00\x03\x00\x00\x00\x18\x00\x02\x00\x04\x00\x00\x00\x1a\x00\x01\x00\x01\x02\x01";
     say(b"lists of");
@@ -114,7 +154,7 @@ fn read_short(costs: &mut [u32], lengths: &mut [u16], rows: &mut [u8]) {
 }
 
 fn read_with(costs: usize, lengths: usize, rows: usize) {
-    let mut c = [7u32; 4];
+    let mut c = [7i32; 4];
     let mut l = [7u16; 4];
     let mut r = [7u8; 4];
     if 4 < costs {
@@ -128,9 +168,9 @@ fn read_with(costs: usize, lengths: usize, rows: usize) {
     }
     read_short(&mut c[0..costs], &mut l[0..lengths], &mut r[0..rows]);
     say(b"; then");
-    say_value(c[0]);
-    say_value(c[1]);
-    say_value(c[2]);
+    say_cost(c[0]);
+    say_cost(c[1]);
+    say_cost(c[2]);
     say(b",");
     say_half(l[0]);
     say_half(l[1]);
@@ -147,7 +187,7 @@ fn read_with(costs: usize, lengths: usize, rows: usize) {
 fn write_with(
     name: &[u8],
     rows: u16,
-    costs: &[u32],
+    costs: &[i32],
     lengths: &[u16],
     numbers: &[u8],
     places: usize,
@@ -264,7 +304,7 @@ fn offer(columns: &[u16]) {
     match verify::check_plan(file, columns) {
         CheckAnswer::Plan(cost) => {
             say(b" plan");
-            say_value(cost);
+            say_cost(cost);
         }
         CheckAnswer::NotOnce(row, times) => {
             say(b" row");

@@ -1,5 +1,6 @@
 // The answers of the calls as structs of numbers for C, with 0 in each field that the answer has no value for.
 use answer::SearchAnswer;
+use dutyfile::Edition;
 use examine::ReadAnswer;
 use reduce::ReduceAnswer;
 use verify::CheckAnswer;
@@ -10,10 +11,10 @@ ghost use Rattle.writer.specs.Answer.{writeOutcome};
 ghost use Rattle.verify.specs.Verdict.{checkOutcome};
 ghost use Rattle.reduce.specs.Answer.{reduceOutcome};
 ghost use Rattle.answer.specs.Answer.{searchOutcome};
-ghost use Rattle.flat.specs.Flat.{shapeOf, writtenOf, checkedOf, reducedOf, answerOf};
+ghost use Rattle.flat.specs.Flat.{editionNumber, shapeOf, writtenOf, checkedOf, reducedOf, answerOf};
 ghost use Rattle.flat.specs.Fits.{ShapeFits, LengthFits, RowFits, UsedFits, ColumnsFit};
 
-// What reading comes to: 01's m, n and t.
+// What reading comes to: 01's m, n and t, and the edition.
 #[repr(C)]
 pub struct SppShape {
     // 01's number of a refusal, or 0 where the call is accepted; so in each struct.
@@ -21,6 +22,8 @@ pub struct SppShape {
     pub rows: u32,
     pub columns: u32,
     pub entries: u32,
+    // 1 for SPP1, 2 for SPP2.
+    pub edition: u32,
 }
 
 // What writing comes to: the file's length.
@@ -40,7 +43,7 @@ pub struct SppChecked {
     pub row: u32,
     pub covered: u32,
     // A plan's cost.
-    pub price: u64,
+    pub price: i64,
 }
 
 // What reducing comes to.
@@ -50,18 +53,29 @@ pub struct SppReduced {
     // 01's sailings used.
     pub used: u32,
     // 01's floor.
-    pub bound: u64,
+    pub bound: i64,
+}
+
+// An edition's number.
+fn edition_number(edition: Edition) -> u32
+    ensures { λ r. ⌜ r ≡ editionNumber edition ⌝ }
+{
+    match edition {
+        Edition::Spp1 => 1,
+        Edition::Spp2 => 2,
+    }
 }
 
 // The struct of these numbers.
-fn shape(refusal: u32, rows: u32, columns: u32, entries: u32) -> SppShape
-    ensures { λ r. ⌜ r ≡ record { refusal = refusal; rows = rows; columns = columns; entries = entries } ⌝ }
+fn shape(refusal: u32, rows: u32, columns: u32, entries: u32, edition: u32) -> SppShape
+    ensures { λ r. ⌜ r ≡ record { refusal = refusal; rows = rows; columns = columns; entries = entries; edition = edition } ⌝ }
 {
     SppShape {
         refusal: refusal,
         rows: rows,
         columns: columns,
         entries: entries,
+        edition: edition,
     }
 }
 
@@ -71,13 +85,17 @@ pub fn flat_shape(answer: ReadAnswer) -> SppShape
     ensures { λ r. ⌜ r ≡ shapeOf (readOutcome answer) ⌝ }
 {
     match answer {
-        ReadAnswer::Refused(why) => shape(refusals::number(why), 0, 0, 0),
-        ReadAnswer::Accepted(found) => shape(
-            0,
-            found.rows as u32,
-            found.columns as u32,
-            found.entries as u32,
-        ),
+        ReadAnswer::Refused(why) => shape(refusals::number(why), 0, 0, 0, 0),
+        ReadAnswer::Accepted(found) => {
+            let edition = found.edition;
+            shape(
+                0,
+                found.rows as u32,
+                found.columns as u32,
+                found.entries as u32,
+                edition_number(edition),
+            )
+        }
     }
 }
 
@@ -103,7 +121,7 @@ pub fn flat_written(answer: WriteAnswer) -> SppWritten
 }
 
 // The struct of these numbers.
-fn checked(refusal: u32, is_plan: u32, row: u32, covered: u32, price: u64) -> SppChecked
+fn checked(refusal: u32, is_plan: u32, row: u32, covered: u32, price: i64) -> SppChecked
     ensures { λ r. ⌜ r ≡ record { refusal = refusal; «is_plan» = «is_plan»; row = row; covered = covered; price = price } ⌝ }
 {
     SppChecked {
@@ -122,13 +140,13 @@ pub fn flat_checked(answer: CheckAnswer) -> SppChecked
 {
     match answer {
         CheckAnswer::Refused(why) => checked(refusals::number(why), 0, 0, 0, 0),
-        CheckAnswer::Plan(cost) => checked(0, 1, 0, 0, cost as u64),
+        CheckAnswer::Plan(cost) => checked(0, 1, 0, 0, signed::wide(cost)),
         CheckAnswer::NotOnce(row, times) => checked(0, 0, row as u32, times, 0),
     }
 }
 
 // The struct of these numbers.
-fn reduced(refusal: u32, used: u32, bound: u64) -> SppReduced
+fn reduced(refusal: u32, used: u32, bound: i64) -> SppReduced
     ensures { λ r. ⌜ r ≡ record { refusal = refusal; used = used; bound = bound } ⌝ }
 {
     SppReduced {
@@ -145,7 +163,7 @@ pub fn flat_reduced(answer: ReduceAnswer) -> SppReduced
 {
     match answer {
         ReduceAnswer::Refused(why) => reduced(refusals::number(why), 0, 0),
-        ReduceAnswer::Reduced(found) => reduced(0, found.used as u32, found.bound as u64),
+        ReduceAnswer::Reduced(found) => reduced(0, found.used as u32, found.bound),
     }
 }
 
@@ -161,9 +179,9 @@ pub struct SppAnswer {
     pub columns: u32,
     pub nodes: u32,
     // The cost of the plan shown.
-    pub price: u64,
+    pub price: i64,
     // 01's root floor.
-    pub bound: u64,
+    pub bound: i64,
 }
 
 // The struct of these numbers.
@@ -173,8 +191,8 @@ fn searched(
     has_plan: u32,
     columns: u32,
     nodes: u32,
-    price: u64,
-    bound: u64,
+    price: i64,
+    bound: i64,
 ) -> SppAnswer
     ensures { λ r. ⌜ r ≡ record { refusal = refusal; outcome = outcome; «has_plan» = «has_plan»; columns = columns; nodes = nodes; price = price; bound = bound } ⌝ }
 {
@@ -197,15 +215,15 @@ pub fn flat_answer(answer: SearchAnswer) -> SppAnswer
     match answer {
         SearchAnswer::Refused(why) => searched(refusals::number(why), 0, 0, 0, 0, 0, 0),
         SearchAnswer::None(nodes) => searched(0, 2, 0, 0, nodes, 0, 0),
-        SearchAnswer::Stopped(at) => searched(0, 3, 0, 0, at.nodes, 0, at.bound as u64),
+        SearchAnswer::Stopped(at) => searched(0, 3, 0, 0, at.nodes, 0, at.bound),
         SearchAnswer::Best(plan) => searched(
             0,
             1,
             1,
             plan.columns as u32,
             plan.nodes,
-            plan.cost as u64,
-            plan.bound as u64,
+            plan.cost,
+            plan.bound,
         ),
         SearchAnswer::StoppedWith(kept) => searched(
             0,
@@ -213,8 +231,8 @@ pub fn flat_answer(answer: SearchAnswer) -> SppAnswer
             1,
             kept.columns as u32,
             kept.nodes,
-            kept.cost as u64,
-            kept.bound as u64,
+            kept.cost,
+            kept.bound,
         ),
     }
 }

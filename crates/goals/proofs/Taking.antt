@@ -4,15 +4,14 @@ use mathlib.Core.List.{List}
 use Prim.Native.Nat.{ℕ, _+_, _<_}
 use native.Mathlib.Omega.{arith}
 use Rattle.node.specs.declared.Node.{Node}
-use Rattle.node.specs.Lists.{on}
-use Rattle.node.specs.Matrix.{Matrix, width}
-use Rattle.node.specs.Node.{isFree, costAt, take}
+use Rattle.node.specs.Matrix.{Matrix}
+use Rattle.node.specs.Node.{costAt, take}
 use Rattle.node.specs.Stored.{matrixIn, HasColumn}
 use Rattle.rules.specs.declared.Goal.{Goal}
 use Rattle.rules.specs.declared.Goal.the-variants.{Sum, Longest}
 use Rattle.rules.specs.Goals.{searchFor}
-use Rattle.rules.proofs.Sums.{total-one}
 use Rattle.rules.proofs.Plans.{Free}
+use Rattle.rules.proofs.Costs.{costLimit, fair-room}
 use Rattle.rules.proofs.Goals.{FairFor, WorkableFor}
 use Rattle.goals.specs.Taking.{joinOf, Takes}
 
@@ -23,12 +22,7 @@ joined-is Longest p s j = refl
 
 room : (g : Goal) (l : List ℕ) (s : Node) (j : ℕ) → WorkableFor g l s → Free (matrixIn l) s j → s .bound + costAt s j < 4294967296
 unfolding FairFor
-room Sum l s j w f =
-    omega (
-      arith,
-      w .fair .within,
-      rw (f .is-free) at (total-one (width (matrixIn l)) j (λ i. on (isFree s i) (costAt s i)) (f .col)),
-    )
+room Sum l s j w f = omega (arith, fair-room (matrixIn l) (w .kept .small) costLimit s (w .fair) j f)
 room Longest l s j w f = omega (arith, w .fair .low, w .fair .costs j (f .col))
 
 module _ (g : Goal) (l : List ℕ) (s : Node) (j : ℕ) (t : Takes g l s j) where

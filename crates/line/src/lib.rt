@@ -4,43 +4,67 @@ use answer::Halted;
 use answer::SearchAnswer;
 ghost use mathlib.Core.List.{[], _∷_};
 ghost use Prim.Native.Nat.{_+_, _≤_};
+ghost use lib.IntN.{pos};
 ghost use lib.ListN.{length};
 ghost use Rattle.answer.specs.Answer.{searchOutcome};
-ghost use Rattle.line.specs.Line.{field, fields, wordsOf, lineOf};
+ghost use Rattle.line.specs.Line.{decimal, field, fields, wordsOf, lineOf};
 ghost use Rattle.line.specs.Put.{Put};
+
+// The digits of a number, from a place on. Gives the place after them.
+fn put_digits(out: &mut [u8], at: usize, n: u64) -> usize
+    requires { ⌜ at + 20 ≤ length (now out) ⌝ }
+    ensures { λ r. ⌜ r ≤ at + 20 ⌝ }
+    ensures { λ r. ⌜ Put (now (out .entry)) (now (out .exit)) at r (decimal 20 n) ⌝ }
+{
+    let mut digits = [0u8; 20];
+    let k = io::decimal(n, &mut digits);
+    endian::put(out, at, &digits[..k]);
+    at + k
+}
 
 // A space and a number, from a place on. Gives the place after them.
 fn put_number(out: &mut [u8], at: usize, n: u64) -> usize
     requires { ⌜ at + 21 ≤ length (now out) ⌝ }
     ensures { λ r. ⌜ r ≤ at + 21 ⌝ }
-    ensures { λ r. ⌜ Put (now (out .entry)) (now (out .exit)) at r (field n) ⌝ }
+    ensures { λ r. ⌜ Put (now (out .entry)) (now (out .exit)) at r (field (pos n)) ⌝ }
 {
-    let mut digits = [0u8; 20];
-    let k = io::decimal(n, &mut digits);
     endian::put(out, at, b" ");
-    endian::put(out, at + 1, &digits[..k]);
-    at + 1 + k
+    put_digits(out, at + 1, n)
+}
+
+// A space and a number with its sign, from a place on. Gives the place after them.
+fn put_signed(out: &mut [u8], at: usize, z: i64) -> usize
+    requires { ⌜ at + 22 ≤ length (now out) ⌝ }
+    ensures { λ r. ⌜ r ≤ at + 22 ⌝ }
+    ensures { λ r. ⌜ Put (now (out .entry)) (now (out .exit)) at r (field z) ⌝ }
+{
+    let n = signed::magnitude(z);
+    if z < 0 {
+        endian::put(out, at, b" -");
+        return put_digits(out, at + 2, n);
+    }
+    put_number(out, at, n)
 }
 
 // Price, root floor, nodes and duties.
 fn put_found(out: &mut [u8], at: usize, found: Found) -> usize
-    requires { ⌜ at + 84 ≤ length (now out) ⌝ }
-    ensures { λ r. ⌜ r ≤ at + 84 ⌝ }
-    ensures { λ r. ⌜ Put (now (out .entry)) (now (out .exit)) at r (fields (found .cost ∷ found .bound ∷ found .nodes ∷ found .columns ∷ [])) ⌝ }
+    requires { ⌜ at + 86 ≤ length (now out) ⌝ }
+    ensures { λ r. ⌜ r ≤ at + 86 ⌝ }
+    ensures { λ r. ⌜ Put (now (out .entry)) (now (out .exit)) at r (fields (found .cost ∷ found .bound ∷ pos (found .nodes) ∷ pos (found .columns) ∷ [])) ⌝ }
 {
-    let floor = put_number(out, at, found.cost as u64);
-    let nodes = put_number(out, floor, found.bound as u64);
+    let floor = put_signed(out, at, found.cost);
+    let nodes = put_signed(out, floor, found.bound);
     let duties = put_number(out, nodes, found.nodes as u64);
     put_number(out, duties, found.columns as u64)
 }
 
 // Root floor and nodes, and no duties.
 fn put_halted(out: &mut [u8], at: usize, halted: Halted) -> usize
-    requires { ⌜ at + 63 ≤ length (now out) ⌝ }
-    ensures { λ r. ⌜ r ≤ at + 63 ⌝ }
-    ensures { λ r. ⌜ Put (now (out .entry)) (now (out .exit)) at r (fields (halted .bound ∷ halted .nodes ∷ 0 ∷ [])) ⌝ }
+    requires { ⌜ at + 64 ≤ length (now out) ⌝ }
+    ensures { λ r. ⌜ r ≤ at + 64 ⌝ }
+    ensures { λ r. ⌜ Put (now (out .entry)) (now (out .exit)) at r (fields (halted .bound ∷ pos (halted .nodes) ∷ pos 0 ∷ [])) ⌝ }
 {
-    let nodes = put_number(out, at, halted.bound as u64);
+    let nodes = put_signed(out, at, halted.bound);
     let duties = put_number(out, nodes, halted.nodes as u64);
     put_number(out, duties, 0)
 }

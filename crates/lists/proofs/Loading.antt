@@ -1,20 +1,22 @@
 -- The list that is built of an accepted file's lists keeps the file's matrix, and the root of that is the file's root.
-use mathlib.Core.Path.{_≡_, refl, ap, sym, _∙_}
+use mathlib.Core.Path.{_≡_, refl, sym, _∙_}
 use mathlib.Core.List.{List}
 use Prim.Native.Nat.{ℕ, _-_, _≤_}
 use native.Mathlib.Nat.{sub-zero}
 use native.Mathlib.Omega.{arith}
-use lib.ListN.{length, getD, take, length-map}
-use Rattle.node.specs.Lists.{upto, table, total}
-use Rattle.node.specs.Matrix.{Matrix, width}
+use lib.IntN.{ℤ}
+use lib.ListN.{length, getD, take, replicate, length-map}
+use Rattle.refusals.specs.Refusals.{front}
+use Rattle.node.specs.Lists.{upto, table}
+use Rattle.node.specs.Matrix.{Matrix}
 use Rattle.node.specs.Node.{root}
-use Rattle.node.specs.Stored.{matrixIn, FitsNode}
+use Rattle.node.specs.Stored.{matrixIn}
 use Rattle.node.proofs.Members.{at-table, length-from}
-use Rattle.node.proofs.Loops.{table-ext}
-use Rattle.rules.proofs.Sums.{total-cong}
-use Rattle.rules.proofs.Costs.{costLimit, root-good}
+use Rattle.node.proofs.Loops.{table-ext, zeros-after}
+use Rattle.rules.proofs.Costs.{costLimit, root-fair}
 use Rattle.dutyfile.specs.declared.Shape.{Shape}
-use Rattle.dutyfile.specs.File.{parse, instance}
+use Rattle.dutyfile.specs.File.{parse, raisedAll, instance}
+use Rattle.raising.specs.Priced.{AllPriced}
 use Rattle.refusals.specs.declared.Refusal.{Refusal}
 use Rattle.examine.specs.declared.ReadAnswer.the-variants.{Accepted as accept, Refused as refuse}
 use Rattle.matrix.specs.Stated.{stated, Statable, Holds}
@@ -35,46 +37,54 @@ root-table : (p : Matrix) (cs : List ℕ) → root p (table 256 (λ j. getD cs j
 unfolding root
 root-table p cs = simp (cost-table cs)
 
-module _ (file : List ℕ) (found : Shape) (costs lengths numbers : List ℕ) (t : Listed file found costs lengths numbers) where
-  all-costs : (l : List ℕ) → matrixIn l ≡ instance (parse file) .matrix → FitsNode (matrixIn l) →
-      total (width (matrixIn l)) (λ k. getD costs k 0) ≤ costLimit
-  all-costs l is F =
-      let f : ℕ → ℕ = λ k. getD (parse file .costs) k 0 in
-      omega (
-        arith,
-        t .cheap,
-        ap (λ (p : Matrix). total (width p) f) is,
-        total-cong (width (matrixIn l)) (λ k. getD costs k 0) f (λ k h. rw (t .costs-is) (at-table 256 f k (omega (arith, F .wide)))),
-      )
+-- a list at the front of zeros
+front-table : (new : List ℕ) → length new ≤ 256 → front new (replicate 256 0) ≡ table 256 (λ j. getD new j 0)
+unfolding front
+front-table new h = zeros-after new 256 h
+
+module _ (file : List ℕ) (found : Shape) (prices : List ℤ) (lengths numbers : List ℕ) (t : Listed file found prices lengths numbers) where
+  -- the costs, as a table
+  raised-table : (costs : List ℕ) → costs ≡ front (instance (parse file) .costs) (replicate 256 0)
+      → costs ≡ table 256 (λ j. getD (instance (parse file) .costs) j 0)
+  raised-table costs e = e ∙ front-table (instance (parse file) .costs) (omega (arith, t .long, t .columns))
 
   -- the parts of the lists that are handed on
   pub parts-statable : Statable (found .rows) (take (found .columns - 0) lengths) (take (found .entries - 0) numbers)
   parts-statable = rw (sub-zero, sub-zero) (t .statable)
 
-  pub loaded : (l : List ℕ) → length l ≡ 8516 → length costs ≡ 256 →
+  pub parts-priced : AllPriced (found .edition) (take (found .columns - 0) prices) (take (found .columns - 0) lengths)
+  parts-priced = rw sub-zero (t .priced)
+
+  -- the costs that are filled
+  pub parts-raised : (costs : List ℕ)
+      → costs ≡ front (raisedAll (found .edition) (take (found .columns - 0) prices) (take (found .columns - 0) lengths)) (replicate 256 0)
+      → costs ≡ front (instance (parse file) .costs) (replicate 256 0)
+  parts-raised costs e = rw (sub-zero, t .raised-is) at e
+
+  loaded : (l costs : List ℕ) → length l ≡ 8516 → costs ≡ front (instance (parse file) .costs) (replicate 256 0) →
       Holds l (stated (found .rows) (take (found .columns - 0) lengths) (take (found .entries - 0) numbers)) → Loaded file found l costs
-  loaded l long wide o =
+  loaded l costs long raised o =
       let h : Holds l (stated (found .rows) (take (found .columns) lengths) (take (found .entries) numbers)) = rw (sub-zero, sub-zero) at o in
       let is : matrixIn l ≡ instance (parse file) .matrix = h .is ∙ t .matrix-is in
       let F = h .kept .small .fits in
-      let g = root-good (matrixIn l) costs F in
+      let costs-is = raised-table costs raised in
       record {
         passes = t .passes;
         shape-is = t .shape-is;
         long = long;
-        costs-long = wide;
+        costs-long = rw costs-is (length-map (upto 256) _ ∙ length-from 256 0);
         kept = h .kept;
         is = is;
         rows-is = rw (h .is);
         columns-is = rw is (t .wide);
-        root-is = rw (is, t .costs-is) (root-table (instance (parse file) .matrix) (parse file .costs));
+        root-is = rw (is, costs-is) (root-table (instance (parse file) .matrix) (instance (parse file) .costs));
         workable = record {
           kept = h .kept;
-          fair = record { sound = g .sound; within = omega (arith, g .within, all-costs l is F) };
+          fair = root-fair (matrixIn l) costs F costLimit (λ k h. rw (costs-is, at-table 256 _ k (omega (arith, F .wide))) (t .cheap k (rw is at h)));
         };
       }
 
-  pub loaded-as : (l : List ℕ) → length l ≡ 8516 → length costs ≡ 256 →
+  pub loaded-as : (l costs : List ℕ) → length l ≡ 8516 → costs ≡ front (instance (parse file) .costs) (replicate 256 0) →
       Holds l (stated (found .rows) (take (found .columns - 0) lengths) (take (found .entries - 0) numbers)) →
       (told : Shape) → accept found ≡ accept told → Loaded file told l costs
-  loaded-as l long wide o told e = let q : found ≡ told = cc in rw (← q) (loaded l long wide o)
+  loaded-as l costs long raised o told e = let q : found ≡ told = cc in rw (← q) (loaded l costs long raised o)

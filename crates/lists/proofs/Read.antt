@@ -1,46 +1,46 @@
 -- A file is refused by its own tests, since the lists have room for any accepted file; and the front of each list is the file's own list.
 use mathlib.Core.Path.{_≡_, refl, ap, sym, _∙_}
 use mathlib.Core.List.{List}
-use Prim.Native.Nat.{ℕ, _≤_}
-use native.Mathlib.Omega.{arith}
-use lib.ListN.{length, getD, take, replicate, length-map}
+use Prim.Native.Nat.{ℕ, _≤_, _<_}
+use lib.IntN.{ℤ}
+use lib.ListN.{length, getD, take, length-map}
 use borrow.Author.Tests.{le-leb}
 use Rattle.refusals.specs.Refusals.{Fault, fine, fault, _then_, accepted, refused, unless, numberOf, front, filled}
 use Rattle.refusals.specs.declared.Refusal.{Refusal}
 use Rattle.refusals.proofs.Laws.{passes, accepts, refuses, fills, front-take}
-use Rattle.node.specs.Lists.{table, total}
 use Rattle.node.specs.Matrix.{width}
-use Rattle.node.proofs.Loops.{zeros-after}
 use Rattle.rules.proofs.Costs.{costLimit}
 use Rattle.dutyfile.specs.declared.Shape.{Shape}
-use Rattle.dutyfile.specs.File.{columnsIn, entries, costOf, sizeOf, parse, instance, sum, shape}
+use Rattle.dutyfile.specs.File.{columnsIn, entries, costOf, sizeOf, parse, raisedAll, instance, sum, shape}
 use Rattle.dutyfile.specs.Faults.{fileFault, roomsFault, reading, contentsFault}
 use Rattle.dutyfile.proofs.Entries.{length-entries}
 use Rattle.dutyfile.proofs.Facts.{Accepted, file-fine, fine-file, all-pass, contents-small, length-numbers}
 use Rattle.examine.specs.declared.ReadAnswer.{ReadAnswer}
 use Rattle.examine.specs.declared.ReadAnswer.the-variants.{Accepted as accept, Refused as refuse}
 use Rattle.examine.specs.Answer.{readOutcome}
+use Rattle.raising.specs.Priced.{AllPriced}
 use Rattle.matrix.specs.Stated.{stated, Statable}
-use Rattle.matrix.proofs.Accepted.{file-is, file-wide, file-statable, file-cheap}
+use Rattle.matrix.proofs.Accepted.{parse-edition, file-is, file-wide, file-statable, file-priced, raised-count, file-costs}
 use Rattle.lists.specs.Places.{Places}
 
--- an accepted file's numbers of rows, columns and row numbers, a table of its costs, and lists whose first places state its matrix
-pub record Listed (file : List ℕ) (found : Shape) (costs lengths numbers : List ℕ) : Type 0 where
+-- what an accepted file holds, lists whose first places state its matrix, and first costs that are raised
+pub record Listed (file : List ℕ) (found : Shape) (costs : List ℤ) (lengths numbers : List ℕ) : Type 0 where
   pub passes : fileFault file ≡ fine
   pub shape-is : shape file ≡ found
   pub columns : found .columns ≤ 256
   pub entries : found .entries ≤ 4096
-  pub costs-is : costs ≡ table 256 (λ j. getD (parse file .costs) j 0)
+  pub priced : AllPriced (found .edition) (take (found .columns) costs) (take (found .columns) lengths)
+  pub raised-is : raisedAll (found .edition) (take (found .columns) costs) (take (found .columns) lengths) ≡ instance (parse file) .costs
+  pub long : length (instance (parse file) .costs) ≡ found .columns
   pub statable : Statable (found .rows) (take (found .columns) lengths) (take (found .entries) numbers)
   pub matrix-is : stated (found .rows) (take (found .columns) lengths) (take (found .entries) numbers) ≡ instance (parse file) .matrix
   pub wide : width (instance (parse file) .matrix) ≡ found .columns
-  pub cheap : total (width (instance (parse file) .matrix)) (λ j. getD (parse file .costs) j 0) ≤ costLimit
+  pub cheap : (j : ℕ) → j < width (instance (parse file) .matrix) → getD (instance (parse file) .costs) j 0 ≤ costLimit
 
--- an accepted file's numbers of rows, columns and row numbers, a table of its costs, and lists whose first places are its lists
-pub record Fronts (file : List ℕ) (found : Shape) (costs lengths numbers : List ℕ) : Type 0 where
+-- what an accepted file holds, and lists whose first places are its lists
+pub record Fronts (file : List ℕ) (found : Shape) (costs : List ℤ) (lengths numbers : List ℕ) : Type 0 where
   pub passes : fileFault file ≡ fine
   pub shape-is : shape file ≡ found
-  pub costs-is : costs ≡ table 256 (λ j. getD (parse file .costs) j 0)
   pub costs-front : take (found .columns) costs ≡ parse file .costs
   pub lengths-front : take (found .columns) lengths ≡ parse file .lengths
   pub numbers-front : take (found .entries) numbers ≡ parse file .numbers
@@ -78,10 +78,10 @@ reading-local s = go (fileFault s) refl
     go (fault k) e = refl
 
 -- an accepted file, and lists with its costs, its body lengths and its row numbers
-pub accepted-listed : (s : List ℕ) → Accepted s → (costs lengths numbers : List ℕ) → costs ≡ table 256 (λ j. getD (parse s .costs) j 0)
+pub accepted-listed : (s : List ℕ) → Accepted s → (costs : List ℤ) (lengths numbers : List ℕ) → take (shape s .columns) costs ≡ parse s .costs
     → take (shape s .columns) lengths ≡ parse s .lengths → take (shape s .entries) numbers ≡ parse s .numbers
     → Listed s (shape s) costs lengths numbers
-unfolding shape
+unfolding shape instance
 accepted-listed s a costs lengths numbers c d k =
     let z : Sizes s = sizes s a in
     record {
@@ -89,20 +89,17 @@ accepted-listed s a costs lengths numbers c d k =
       shape-is = refl;
       columns = z .columns;
       entries = z .entries;
-      costs-is = c;
+      priced = rw (c, d) (file-priced s a);
+      raised-is = rw (c, d, parse-edition s);
+      long = raised-count s a;
       statable = rw (d, k) (file-statable s a);
       matrix-is = rw (d, k) (file-is s a);
       wide = file-wide s a;
-      cheap = file-cheap s a;
+      cheap = file-costs s a;
     }
 
--- a list at the front of zeros
-front-table : (new : List ℕ) → length new ≤ 256 → front new (replicate 256 0) ≡ table 256 (λ j. getD new j 0)
-unfolding front
-front-table new h = zeros-after new 256 h
-
 module _ (s : List ℕ) (r : ReadAnswer) where
-  pub file-alone : (old old′ old″ : List ℕ) → Places old old′ old″ → readOutcome r ≡ reading s (length old) (length old′) (length old″) →
+  pub file-alone : (old : List ℤ) (old′ old″ : List ℕ) → Places old old′ old″ → readOutcome r ≡ reading s (length old) (length old′) (length old″) →
       readOutcome r ≡ unless (fileFault s) (shape s)
   file-alone old old′ old″ places told = rw (places .costs-long, places .lengths-long, places .numbers-long) at told ∙ reading-local s
 
@@ -120,14 +117,14 @@ module _ (s : List ℕ) (r : ReadAnswer) where
           let t : accepted found ≡ unless (fileFault s) (shape s) = rw e at says in
           accepts _ _ _ (sym t)
 
-      filled-is : (new old now : List ℕ) → now ≡ filled (readOutcome r) new old → now ≡ front new old
+      pub filled-is : {A : Type 0} (new old now : List A) → now ≡ filled (readOutcome r) new old → now ≡ front new old
       unfolding readOutcome
       filled-is new old now h = h ∙ fills found new old (rw e)
 
-      filled-front : (new old now : List ℕ) (n : ℕ) → now ≡ filled (readOutcome r) new old → length new ≡ n → take n now ≡ new
+      filled-front : {A : Type 0} (new old now : List A) (n : ℕ) → now ≡ filled (readOutcome r) new old → length new ≡ n → take n now ≡ new
       filled-front new old now n h k = ap (take n) (filled-is new old now h) ∙ front-take new old n k
 
-      module _ (old old′ old″ : List ℕ) (places : Places old old′ old″) (costs lengths numbers : List ℕ)
+      module _ (old : List ℤ) (old′ old″ : List ℕ) (costs : List ℤ) (lengths numbers : List ℕ)
           (h : costs ≡ filled (readOutcome r) (parse s .costs) old) (l : lengths ≡ filled (readOutcome r) (parse s .lengths) old′)
           (n : numbers ≡ filled (readOutcome r) (parse s .numbers) old″) where
         pub file-fronts : Fronts s found costs lengths numbers
@@ -137,7 +134,6 @@ module _ (s : List ℕ) (r : ReadAnswer) where
             rw (sym (tells .1)) (record {
               passes = tells .0;
               shape-is = refl;
-              costs-is = filled-is _ _ _ h ∙ rw (places .costs-zero) (front-table (parse s .costs) (omega (arith, z .costs-long, z .columns)));
               costs-front = filled-front (parse s .costs) old costs (columnsIn s) h (z .costs-long);
               lengths-front = filled-front (parse s .lengths) old′ lengths (columnsIn s) l (z .lengths-long);
               numbers-front = filled-front (parse s .numbers) old″ numbers (sum (parse s .lengths)) n (z .numbers-long);
@@ -148,4 +144,4 @@ module _ (s : List ℕ) (r : ReadAnswer) where
             let f = file-fronts in
             let is = sym (f .shape-is) in
             rw is
-            (accepted-listed s (file-fine s (f .passes)) costs lengths numbers (f .costs-is) (rw is at (f .lengths-front)) (rw is at (f .numbers-front)))
+            (accepted-listed s (file-fine s (f .passes)) costs lengths numbers (rw is at (f .costs-front)) (rw is at (f .lengths-front)) (rw is at (f .numbers-front)))

@@ -12,7 +12,7 @@ use Rattle.dutyfile.specs.declared.Shape.{Shape}
 use Rattle.dutyfile.specs.File.{parse, instance, shape}
 use Rattle.dutyfile.specs.Faults.{fileFault}
 
--- an accepted file's numbers of rows, columns and row numbers, the list that holds its matrix, and costs that give its root
+-- what an accepted file holds, the list that holds its matrix, and costs that give its root
 pub record Loaded (file : List ℕ) (found : Shape) (l costs : List ℕ) : Type 0 where
   pub passes : fileFault file ≡ fine
   pub shape-is : shape file ≡ found
@@ -22,5 +22,5 @@ pub record Loaded (file : List ℕ) (found : Shape) (l costs : List ℕ) : Type 
   pub is : matrixIn l ≡ instance (parse file) .matrix
   pub rows-is : matrixIn l .rows ≡ found .rows
   pub columns-is : width (matrixIn l) ≡ found .columns
-  pub root-is : root (matrixIn l) costs ≡ root (instance (parse file) .matrix) (parse file .costs)
+  pub root-is : root (matrixIn l) costs ≡ root (instance (parse file) .matrix) (instance (parse file) .costs)
   pub workable : Workable l (root (matrixIn l) costs)

@@ -9,5 +9,7 @@ mod Collected
 mod Parts
 mod Laid
 mod Listing
--- and the matrix of an accepted file.
+-- of the matrix of an accepted file,
 pub mod Accepted
+-- and of its costs in a search.
+pub mod Raised

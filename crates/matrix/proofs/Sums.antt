@@ -1,7 +1,7 @@
 -- Sums: of the first numbers of a list, one more at a time; and of the lengths of all parts of a list.
 use mathlib.Core.Path.{_≡_, refl, ap}
 use mathlib.Core.List.{List, [], _∷_, map}
-use Prim.Native.Nat.{ℕ, zero, suc, _+_, _*_, _≤_, _<_}
+use Prim.Native.Nat.{ℕ, zero, suc, _+_, _≤_, _<_}
 use native.Mathlib.Nat.{add-zero}
 use native.Mathlib.Numerals.{add-one}
 use native.Mathlib.Omega.{arith}
@@ -26,11 +26,6 @@ sum-take-le [] zero = omega arith
 sum-take-le [] (suc j) = omega arith
 sum-take-le (x ∷ l) zero = omega arith
 sum-take-le (x ∷ l) (suc j) = omega (arith, sum-take-le l j)
-
-pub total-below : (n : ℕ) (f : ℕ → ℕ) → ((k : ℕ) → k < n → f k ≤ 1000000) → total n f ≤ 1000000 * n
-unfolding total
-total-below zero f h = omega arith
-total-below (suc n) f h = omega (arith, total-below n f (λ k l. h k (omega arith)), h n (omega arith))
 
 -- all parts together, by a sum
 pub size-map : (f : ℕ → List ℕ) (n k : ℕ) → size (map f (from n k)) ≡ total n (λ i. length (f (k + i)))

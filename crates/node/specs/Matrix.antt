@@ -4,8 +4,9 @@ use mathlib.Core.Path.{_≡_}
 use mathlib.Core.Bool.{Bool, not, _&&_}
 use mathlib.Core.List.{List, []}
 use Prim.Native.Nat.{ℕ, suc, _<_}
+use lib.IntN.{ℤ, pos}
 use lib.ListN.{length, getD}
-use Rattle.node.specs.Lists.{member, keep, upto, isEmpty, on, total}
+use Rattle.node.specs.Lists.{member, keep, upto, isEmpty, on, total, onZ, totalZ}
 
 -- m rows, and for each of n columns its body (01: sailings, and the sailings of each duty)
 pub record Matrix : Type 0 where
@@ -45,6 +46,10 @@ count p i X = total (width p) (λ j. on (X j) (on (covers p i j) 1))
 unfoldable pub price : Matrix → List ℕ → (ℕ → Bool) → ℕ
 price p costs X = total (width p) (λ j. on (X j) (getD costs j 0))
 
+-- what it costs where costs may be below 0 (02, P10)
+unfoldable pub signedPrice : Matrix → List ℤ → (ℕ → Bool) → ℤ
+signedPrice p costs X = totalZ (width p) (λ j. onZ (X j) (getD costs j (pos 0)))
+
 abbrev pub IsPlan : Matrix → (ℕ → Bool) → Type 0
 IsPlan p X = (i : ℕ) → i < p .rows → count p i X ≡ 1
 
@@ -57,7 +62,7 @@ named js j = member (suc j) js
 abbrev pub chosen : List ℕ → ℕ → Bool
 chosen js j = member j js
 
-pub record Shows (p : Matrix) (Ok : (ℕ → Bool) → Type 0) (value : (ℕ → Bool) → ℕ) (c : ℕ) (js : List ℕ) : Type 0 where
+pub record Shows {A : Type 0} (p : Matrix) (Ok : (ℕ → Bool) → Type 0) (value : (ℕ → Bool) → A) (c : A) (js : List ℕ) : Type 0 where
   pub listed : keep (chosen js) (columns p) ≡ js
   pub ok : Ok (chosen js)
   pub priced : value (chosen js) ≡ c

@@ -15,7 +15,7 @@ use Rattle.dutyfile.proofs.Entries.{length-entries, entries-step, entries-end}
 use Rattle.dutyfile.proofs.Facts.{Header, header-fine}
 
 -- at entry j, with f of each entry to be stored
-pub record Filling (f : Entry → ℕ) (s old : List ℕ) (columns : ℕ) (out : List ℕ) (j : ℕ) : Type 0 where
+pub record Filling {A : Type 0} (f : Entry → A) (s : List ℕ) (old : List A) (columns : ℕ) (out : List A) (j : ℕ) : Type 0 where
   pub header : Header s
   pub columns-is : columns ≡ columnsIn s
   pub within : j ≤ columns
@@ -23,7 +23,7 @@ pub record Filling (f : Entry → ℕ) (s old : List ℕ) (columns : ℕ) (out :
   pub same-length : length out ≡ length old
   pub left : sets out j (map f (drop j (entries s))) ≡ sets old 0 (map f (entries s))
 
-module _ (f : Entry → ℕ) (s old : List ℕ) (columns : ℕ) where
+module _ {A : Type 0} (f : Entry → A) (s : List ℕ) (old : List A) (columns : ℕ) where
   pub filling-start : headerFault s ≡ fine → columnsIn s ≤ length old → columns ≡ columnsIn s → Filling f s old columns old 0
   filling-start h r c = record {
     header = header-fine s h;
@@ -34,9 +34,9 @@ module _ (f : Entry → ℕ) (s old : List ℕ) (columns : ℕ) where
     left = refl;
   }
 
-  module _ (out : List ℕ) (j : ℕ) (w : Filling f s old columns out j) where
-    pub filling-next : j < columns → (e : Entry) → e ≡ entryOf (drop (bodiesAt j) s) → Filling f s old columns (set out j (f e)) (j + 1)
-    filling-next h e is =
+  module _ (out : List A) (j : ℕ) (w : Filling f s old columns out j) where
+    pub filling-next : j < columns → (e : Entry) → e ≡ entryOf (drop (bodiesAt j) s) → (x : A) → x ≡ f e → Filling f s old columns (set out j x) (j + 1)
+    filling-next h e is x v =
         let here : drop j (entries s) ≡ e ∷ drop (j + 1) (entries s) = rw is (entries-step s j (rw (w .columns-is) at h)) in
         record {
           header = w .header;
@@ -44,7 +44,7 @@ module _ (f : Entry → ℕ) (s old : List ℕ) (columns : ℕ) where
           within = omega arith;
           room = simp length-set (w .room);
           same-length = simp length-set (w .same-length);
-          left = rw (← w .left, here, add-one);
+          left = rw (v, ← w .left, here, add-one);
         }
 
     pub filling-end : columns ≤ j → out ≡ front (map f (entries s)) old

@@ -12,7 +12,7 @@ ghost use Rattle.dutyfile.specs.Faults.{headerFault, roomsFault, reading};
 ghost use Rattle.examine.specs.Answer.{readOutcome};
 
 // The costs and the body lengths of all columns, at the front of the lists.
-fn fill_columns(file: &[u8], costs: &mut [u32], lengths: &mut [u16])
+fn fill_columns(file: &[u8], costs: &mut [i32], lengths: &mut [u16])
     requires { ⌜ headerFault (now file) ≡ fine ⌝ }
     requires { ⌜ columnsIn (now file) ≤ length (now costs) ⌝ }
     requires { ⌜ columnsIn (now file) ≤ length (now lengths) ⌝ }
@@ -24,7 +24,8 @@ fn fill_columns(file: &[u8], costs: &mut [u32], lengths: &mut [u16])
     let mut k = 0;
     while k < columns {
         let e = table[k];
-        costs[k] = e.cost;
+        let cost = signed::from_bits(e.cost);
+        costs[k] = cost;
         lengths[k] = e.size;
         k += 1;
     }
@@ -57,8 +58,8 @@ fn check_rooms(found: Shape, costs: usize, lengths: usize, rows: usize) -> Check
     Check::Passed
 }
 
-// Reads a duty file: m, n and t, with the front of each list filled; or a refusal, with every list as it was.
-pub fn read(file: &[u8], costs: &mut [u32], lengths: &mut [u16], rows: &mut [u8]) -> ReadAnswer
+// Reads a duty file: the edition, m, n and t, with the front of each list filled; or a refusal, with every list as it was.
+pub fn read(file: &[u8], costs: &mut [i32], lengths: &mut [u16], rows: &mut [u8]) -> ReadAnswer
     ensures { λ r. ⌜ readOutcome r ≡ reading (now (file .entry)) (length (now (costs .entry))) (length (now (lengths .entry))) (length (now (rows .entry))) ⌝ }
     ensures { λ r. ⌜ now (costs .exit) ≡ filled (readOutcome r) (parse (now (file .entry)) .costs) (now (costs .entry)) ⌝ }
     ensures { λ r. ⌜ now (lengths .exit) ≡ filled (readOutcome r) (parse (now (file .entry)) .lengths) (now (lengths .entry)) ⌝ }

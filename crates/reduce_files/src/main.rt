@@ -15,6 +15,15 @@ fn say_number(n: u32) {
     io::print_decimal(1, n as u64);
 }
 
+fn say_price(price: i64) {
+    if price < 0 {
+        say(b" -");
+    } else {
+        say(b" ");
+    }
+    io::print_decimal(1, signed::magnitude(price));
+}
+
 fn say_rows(rows: &[u8]) {
     let mut i = 0;
     while i < rows.len() {
@@ -23,21 +32,21 @@ fn say_rows(rows: &[u8]) {
     }
 }
 
-fn say_costs(costs: &[u32]) {
+fn say_costs(costs: &[i32]) {
     let mut j = 0;
     while j < costs.len() {
-        say_number(costs[j]);
+        say_price(signed::wide(costs[j]));
         j += 1;
     }
 }
 
 // Reduces a file into lists that are lent to it.
-fn show_reduced(file: &[u8], reduced: &mut [u32], order: &mut [u8]) {
+fn show_reduced(file: &[u8], reduced: &mut [i32], order: &mut [u8]) {
     match reduce::reduce(file, reduced, order) {
         ReduceAnswer::Reduced(found) => {
             let used = found.used;
             say(b" bound");
-            say_number(found.bound);
+            say_price(found.bound);
             say(b" by rows");
             if used <= order.len() {
                 say_rows(&order[0..used]);
@@ -57,7 +66,7 @@ fn show_reduced(file: &[u8], reduced: &mut [u32], order: &mut [u8]) {
 fn show_file(file: &[u8], columns: usize, rows: usize)
     requires { ⌜ (columns ≤ 256) × (rows ≤ 64) ⌝ }
 {
-    let mut reduced = [0u32; 256];
+    let mut reduced = [0i32; 256];
     let mut order = [0u8; 64];
     show_reduced(file, &mut reduced[0..columns], &mut order[0..rows]);
 }
@@ -65,7 +74,7 @@ fn show_file(file: &[u8], columns: usize, rows: usize)
 // Writes a file from lists, and reduces it into lists of so many places.
 fn show_lists(
     rows: u16,
-    costs: &[u32],
+    costs: &[i32],
     lengths: &[u16],
     numbers: &[u8],
     columns: usize,
@@ -90,14 +99,14 @@ fn show_lists(
 fn example1(columns: usize, places: usize)
     requires { ⌜ (columns ≤ 256) × (places ≤ 64) ⌝ }
 {
-    let costs: [u32; 8] = [3, 7, 5, 8, 10, 4, 6, 9];
+    let costs: [i32; 8] = [3, 7, 5, 8, 10, 4, 6, 9];
     let lengths: [u16; 8] = [1, 2, 1, 2, 2, 2, 2, 1];
     let numbers: [u8; 13] = [1, 1, 5, 2, 2, 5, 2, 3, 3, 5, 3, 4, 4];
     show_lists(5, &costs, &lengths, &numbers, columns, places);
 }
 
 fn example2() {
-    let costs: [u32; 12] = [30, 49, 51, 52, 52, 55, 67, 67, 70, 81, 81, 83];
+    let costs: [i32; 12] = [30, 49, 51, 52, 52, 55, 67, 67, 70, 81, 81, 83];
     let lengths: [u16; 12] = [3, 3, 3, 3, 3, 3, 3, 3, 3, 3, 3, 3];
     let numbers: [u8; 36] = [
         1,
@@ -141,7 +150,7 @@ fn example2() {
 }
 
 fn example3() {
-    let costs: [u32; 20] = [
+    let costs: [i32; 20] = [
         1,
         2,
         3,
@@ -202,7 +211,7 @@ fn example3() {
 }
 
 fn example4() {
-    let costs: [u32; 10] = [18, 22, 14, 36, 17, 14, 8, 24, 14, 7];
+    let costs: [i32; 10] = [18, 22, 14, 36, 17, 14, 8, 24, 14, 7];
     let lengths: [u16; 10] = [2, 3, 2, 4, 2, 2, 1, 3, 2, 1];
     let numbers: [u8; 22] = [
         5,
@@ -263,7 +272,7 @@ fn put_body(
 fn grow(
     rows: usize,
     stride: usize,
-    costs: &mut [u32],
+    costs: &mut [i32],
     lengths: &mut [u16],
     numbers: &mut [u8],
 ) -> usize
@@ -275,7 +284,7 @@ fn grow(
     let mut j = 0;
     while j < costs.len() {
         let next = put_body(numbers, end, rows, first, 1 + j % 7, 2 + j % 5);
-        costs[j] = (100 + j * 7919 % 997) as u32;
+        costs[j] = (100 + j * 7919 % 997) as i32;
         lengths[j] = (next - end) as u16;
         end = next;
         j += 1;
@@ -291,7 +300,7 @@ fn grow(
 fn show_grown_in(
     rows: usize,
     stride: usize,
-    costs: &mut [u32],
+    costs: &mut [i32],
     lengths: &mut [u16],
     numbers: &mut [u8],
 )
@@ -311,7 +320,7 @@ fn show_grown_in(
 fn show_grown(rows: usize, columns: usize, stride: usize)
     requires { ⌜ (stride ≤ rows) × (rows ≤ 64) × (columns ≤ 256) ⌝ }
 {
-    let mut costs = [0u32; 256];
+    let mut costs = [0i32; 256];
     let mut lengths = [0u16; 256];
     let mut numbers = [0u8; 4096];
     show_grown_in(

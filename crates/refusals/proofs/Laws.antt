@@ -92,6 +92,10 @@ unfolding unless
 refuses fine a k e = absurd (let z : _≡_ {A = ℕ} 0 1 = cc in omega arith)
 refuses (fault j) a k e = let q : j ≡ k = cc in rw q
 
+-- a refusal has no answer
+pub refused-none : {A : Type 0} (k : ℕ) (a : A) → refused k ≡ accepted a → ⊥
+refused-none k a e = let z : _≡_ {A = ℕ} 0 1 = cc in omega arith
+
 -- and the other way round
 pub unless-fine : {A : Type 0} {f : Fault} (a : A) → f ≡ fine → accepted a ≡ unless f a
 unfolding unless
@@ -109,28 +113,28 @@ pub outcome-goes-on : {A : Type 0} {f : Fault} (g : Fault) (a : A) → f ≡ fin
 outcome-goes-on g a e = rw (goes-on g e)
 
 -- a list whose first places are set, one after another
-pub front-sets : (new old : List ℕ) → length new ≤ length old → sets old 0 new ≡ front new old
+pub front-sets : {A : Type 0} (new old : List A) → length new ≤ length old → sets old 0 new ≡ front new old
 unfolding front
 front-sets new old h = rw (sets-eq new old 0 (omega arith), zero-add)
 
 -- the front is the new list
-pub front-take : (new old : List ℕ) (n : ℕ) → length new ≡ n → take n (front new old) ≡ new
+pub front-take : {A : Type 0} (new old : List A) (n : ℕ) → length new ≡ n → take n (front new old) ≡ new
 unfolding front
 front-take new old n e = rw (← e) (take-append-seam new (drop (length new) old))
 
 -- 01: places beyond what is filled keep their contents
-pub beyond : (new old : List ℕ) (k : ℕ) → length new ≤ k → getD (front new old) k 0 ≡ getD old k 0
+pub beyond : {A : Type 0} (new old : List A) (k : ℕ) (d : A) → length new ≤ k → getD (front new old) k d ≡ getD old k d
 unfolding front
-beyond new old k h =
+beyond new old k d h =
     let e : k ≡ length new + (k - length new) = omega arith in
-    rw e (getD-append-add new (drop (length new) old) (k - length new) 0 ∙ getD-drop (length new) old (k - length new) 0)
+    rw e (getD-append-add new (drop (length new) old) (k - length new) d ∙ getD-drop (length new) old (k - length new) d)
 
 -- a list that a call fills or leaves, by the call's outcome
-pub fills : {A : Type 0} {o : Outcome A} (a : A) (new old : List ℕ) → o ≡ accepted a → filled o new old ≡ front new old
+pub fills : {A B : Type 0} {o : Outcome A} (a : A) (new old : List B) → o ≡ accepted a → filled o new old ≡ front new old
 unfolding filled
 fills a new old e = rw e
 
-pub keeps : {A : Type 0} {o : Outcome A} (k : ℕ) (new old : List ℕ) → o ≡ refused k → old ≡ filled o new old
+pub keeps : {A B : Type 0} {o : Outcome A} (k : ℕ) (new old : List B) → o ≡ refused k → old ≡ filled o new old
 unfolding filled
 keeps k new old e = rw e
 

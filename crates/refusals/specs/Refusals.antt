@@ -59,11 +59,11 @@ unless fine a = accepted a
 unless (fault k) a = refused k
 
 -- a list with its front filled: the other places keep their contents
-unfoldable pub front : List ℕ → List ℕ → List ℕ
+unfoldable pub front : {A : Type 0} → List A → List A → List A
 front new old = new ++ drop (length new) old
 
 -- what a lent list holds after a call that fills its front: after a refusal every place keeps its contents
-unfoldable pub filled : {A : Type 0} → Outcome A → List ℕ → List ℕ → List ℕ
+unfoldable pub filled : {A B : Type 0} → Outcome A → List B → List B → List B
 filled (accepted a) new old = front new old
 filled (refused k) new old = old
 

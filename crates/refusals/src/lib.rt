@@ -4,7 +4,7 @@ ghost use Rattle.refusals.specs.Refusals.{numberOf};
 
 // 01's table "When a call declines", with 02's numbers from 14 on: a case for each cause.
 pub enum Refusal {
-    // Under 8 bytes, or not SPP1.
+    // Under 8 bytes, or neither SPP1 nor SPP2.
     Magic,
     // Rows or columns out of range.
     Counts,

@@ -17,14 +17,14 @@ module _ (d : Lists) (p : Passing d) where
   file-room = length-render d (p .same)
 
   pub file-small : sum (d .lengths) ≤ 4096
-  file-small = omega (arith, columns-small (d .rows) 0 (d .costs) (d .lengths) (p .same) (omega arith) (p .columns))
+  file-small = omega (arith, columns-small (d .edition) (d .rows) 0 (d .costs) (d .lengths) (p .same) (omega arith) (p .columns))
 
   pub file-written : (out x y z : List ℕ) → length (render d) ≤ length out →
-      x ≡ sets out 0 (header (d .rows) (length (d .costs))) → y ≡ sets x 8 (contents (bodiesAt (length (d .costs))) (d .costs) (d .lengths)) →
+      x ≡ sets out 0 (header (d .edition) (d .rows) (length (d .costs))) → y ≡ sets x 8 (contents (bodiesAt (length (d .costs))) (d .costs) (d .lengths)) →
       z ≡ sets y (bodiesAt (length (d .costs))) (d .numbers) → z ≡ front (render d) out
   unfolding render header
   file-written out x y z h e f g =
       let n : ℕ = length (d .costs) in
       let q : bodiesAt n ≡ 8 + length (contents (bodiesAt n) (d .costs) (d .lengths)) = omega (arith, length-contents (bodiesAt n) (d .costs) (d .lengths) (p .same)) in
-      three-runs 0 8 (bodiesAt n) (header (d .rows) n) (contents (bodiesAt n) (d .costs) (d .lengths)) (d .numbers) out x y z e f g refl q
+      three-runs 0 8 (bodiesAt n) (header (d .edition) (d .rows) n) (contents (bodiesAt n) (d .costs) (d .lengths)) (d .numbers) out x y z e f g refl q
       ∙ front-sets (render d) out h

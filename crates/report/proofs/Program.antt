@@ -9,7 +9,7 @@ use lib.ListN.{take}
 use lib.Seq.{take-all}
 use Rattle.refusals.specs.Refusals.{Fault, fine, fault, _then_, unless}
 use Rattle.refusals.proofs.Laws.{passes}
-use Rattle.dutyfile.specs.File.{shape}
+use Rattle.dutyfile.specs.File.{added, shape}
 use Rattle.dutyfile.specs.Faults.{fileFault}
 use Rattle.dutyfile.proofs.Facts.{all-pass, within-asks, file-fine}
 use Rattle.dutyfile.proofs.Front.{file-short, front-fault}
@@ -18,7 +18,7 @@ use Rattle.search.specs.Searching.{callFault, fileAnswer, searching}
 use Rattle.report.specs.Program.{programLine}
 
 -- the places are as many as rows can be, and the node limit is in its range
-pub file-refused : (s : List ℕ) → searching s 1000000 64 ≡ unless (fileFault s) (valuesOf (fileAnswer s 1000000))
+pub file-refused : (s : List ℕ) → searching s 1000000 64 ≡ unless (fileFault s) (valuesOf (added s) (fileAnswer s 1000000))
 unfolding searching callFault shape _then_
 file-refused s = rw (go (fileFault s) refl)
   where
@@ -34,8 +34,8 @@ unfolding searching _then_ unless
 front-searching k s limit places most = rw (front-fault k s most) (go (fileFault s) (λ e. take-all k s (omega (arith, file-short s e))))
   where
     go : (f : Fault) → (f ≡ fine → take k s ≡ s) →
-        unless (f then callFault (shape (take k s)) places limit) (valuesOf (fileAnswer (take k s) limit)) ≡
-        unless (f then callFault (shape s) places limit) (valuesOf (fileAnswer s limit))
+        unless (f then callFault (shape (take k s)) places limit) (valuesOf (added (take k s)) (fileAnswer (take k s) limit)) ≡
+        unless (f then callFault (shape s) places limit) (valuesOf (added s) (fileAnswer s limit))
     go fine e = rw (e refl)
     go (fault n) e = refl
 

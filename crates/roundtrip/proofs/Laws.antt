@@ -4,6 +4,7 @@ use mathlib.Core.List.{List}
 use Prim.Native.Nat.{ℕ, _-_, _≤_}
 use native.Mathlib.Nat.{sub-zero}
 use lib.Dec.{leb}
+use lib.IntN.{ℤ}
 use lib.ListN.{length, take}
 use borrow.Author.Tests.{leb-true}
 use Rattle.refusals.specs.Refusals.{fine, Outcome, accepted, refused, front, filled}
@@ -16,13 +17,13 @@ use Rattle.dutyfile.proofs.Facts.{Accepted, file-fine, length-numbers}
 use Rattle.dutyfile.proofs.Round.{ReadsBack, write-then-read, Bytes, WritesBack, read-then-write}
 use Rattle.roundtrip.specs.Back.{shapeOf, readBack, writtenBack}
 
--- m, n and t of an accepted file are those of its lists
+-- the edition, m, n and t of an accepted file are those of its lists
 shape-lists : (s : List ℕ) → Accepted s → shape s ≡ shapeOf (parse s)
 unfolding shape shapeOf parse
 shape-lists s a = rw (length-costs s, length-numbers s (a .walked))
 
 -- the places that a call has filled
-filled-part : {A : Type 0} {o : Outcome A} (a : A) (new old now : List ℕ) (n : ℕ) → o ≡ accepted a → now ≡ filled o new old → length new ≡ n →
+filled-part : {A B : Type 0} {o : Outcome A} (a : A) (new old now : List B) (n : ℕ) → o ≡ accepted a → now ≡ filled o new old → length new ≡ n →
     take (n - 0) now ≡ new
 filled-part a new old now n e h l = rw (sub-zero, h, fills a new old e) (front-take new old n l)
 
@@ -98,16 +99,17 @@ module _ (s : List ℕ) (c l r : ℕ) where
         })
 
     -- Writing the lists read from an accepted file gives its bytes: what is written from the fronts of the lists.
-    module _ (costs lengths numbers costs₀ lengths₀ numbers₀ : List ℕ) (cost-list : costs ≡ filled (reading s c l r) (parse s .costs) costs₀)
+    module _ (costs : List ℤ) (lengths numbers : List ℕ) (costs₀ : List ℤ) (lengths₀ numbers₀ : List ℕ) (cost-list : costs ≡ filled (reading s c l r) (parse s .costs) costs₀)
         (length-list : lengths ≡ filled (reading s c l r) (parse s .lengths) lengths₀)
         (number-list : numbers ≡ filled (reading s c l r) (parse s .numbers) numbers₀) where
-      pub fronts-are : lists (found .rows) (take (found .columns - 0) costs) (take (found .columns - 0) lengths) (take (found .entries - 0) numbers) ≡ parse s
+      pub fronts-are : lists (found .edition) (found .rows) (take (found .columns - 0) costs) (take (found .columns - 0) lengths) (take (found .entries - 0) numbers) ≡ parse s
       unfolding parse shape
       fronts-are =
           let is = passing .1 in
           let columns : columnsIn s ≡ found .columns = ap (λ (x : Shape). x .columns) is in
           let entries : length (parse s .numbers) ≡ found .entries = length-numbers s (accepted-file .walked) ∙ ap (λ (x : Shape). x .entries) is in
           rw (
+            sym (ap (λ (x : Shape). x .edition) is),
             sym (ap (λ (x : Shape). x .rows) is),
             filled-part found _ costs₀ costs _ (sym e) cost-list (length-costs s ∙ columns),
             filled-part found _ lengths₀ lengths _ (sym e) length-list (length-lengths s ∙ columns),

@@ -8,11 +8,11 @@ use Rattle.dutyfile.specs.declared.Shape.{Shape}
 use Rattle.dutyfile.specs.File.{Lists, render, shape}
 use Rattle.dutyfile.specs.Faults.{listsFault, fileFault, room, roomsFault}
 
--- m, n and t of given lists
+-- the edition, m, n and t of given lists
 unfoldable pub shapeOf : Lists → Shape
-shapeOf d = record { rows = d .rows; columns = length (d .costs); entries = length (d .numbers) }
+shapeOf d = record { edition = d .edition; rows = d .rows; columns = length (d .costs); entries = length (d .numbers) }
 
--- Lists are written into a buffer of k places, and the file is read into lists of c, l and r places: it has the m, n and t of the lists written.
+-- Lists are written into a buffer of k places, and the file is read into lists of c, l and r places: it has the edition, m, n and t of the lists written.
 -- Refused are lists that fail the writer's tests, a short buffer and short lists, and nothing else.
 unfoldable pub readBack : Lists → ℕ → ℕ → ℕ → ℕ → Outcome Shape
 readBack d k c l r = unless ((listsFault d then room (length (render d)) k) then roomsFault (shapeOf d) c l r) (shapeOf d)

@@ -4,9 +4,9 @@ use mathlib.Core.List.{List, [], _∷_}
 use Prim.Native.Nat.{ℕ, _≤_, _<_}
 use native.Mathlib.Omega.{arith}
 use Rattle.node.specs.declared.Node.{Node}
-use Rattle.node.specs.Lists.{keep, on, least}
+use Rattle.node.specs.Lists.{keep, least}
 use Rattle.node.specs.Matrix.{Matrix, width, IsPlan}
-use Rattle.node.specs.Node.{isFree, costAt, freeOf, openRows, root, take, leave}
+use Rattle.node.specs.Node.{costAt, freeOf, openRows, root, take, leave}
 use Rattle.node.specs.Stored.{matrixIn, Kept, FitsNode}
 use Rattle.rules.specs.declared.Goal.{Goal}
 use Rattle.rules.specs.declared.Goal.the-variants.{Sum, Longest}
@@ -15,12 +15,11 @@ use Rattle.rules.specs.Reduce.{leastOf, precedes}
 use Rattle.rules.specs.Longest.{topped, raised, longest}
 use Rattle.rules.specs.Goals.{searchFor}
 use Rattle.node.proofs.Members.{least-at}
-use Rattle.rules.proofs.Sums.{total-one}
 use Rattle.rules.proofs.Plans.{Free, Sound, root-free, sound-same}
 use Rattle.rules.proofs.Steps.{take-sound, leave-sound, leave-rest}
 use Rattle.rules.proofs.Rows.{free-in}
 use Rattle.rules.proofs.Variants.{Stepping}
-use Rattle.rules.proofs.Costs.{Fair, costLimit, Workable, take-fair, leave-fair, lower-fair}
+use Rattle.rules.proofs.Costs.{Fair, costLimit, Workable, fair-cost, take-fair, leave-fair, lower-fair}
 use Rattle.rules.proofs.Sum.{sum-steps}
 use Rattle.rules.proofs.Floors.{largest-le}
 use Rattle.rules.proofs.Longest.{raised-parts, longest-steps}
@@ -84,9 +83,9 @@ pub goal-steps : (g : Goal) (l : List ℕ) → Kept l
 unfolding searchFor FairFor
 goal-steps Sum l k =
     sum-steps precedes (matrixIn l) (k .small .fits) (WorkableFor Sum l) (λ s w. w .fair .sound)
-    (λ s j f w. record { kept = k; fair = take-fair (matrixIn l) (k .small .fits) s j f (w .fair) })
+    (λ s j f w. record { kept = k; fair = take-fair (matrixIn l) (k .small .fits) s j f (k .small) (w .fair) })
     (λ s j f w. record { kept = k; fair = leave-fair (matrixIn l) (k .small .fits) s j f (w .fair) })
-    (λ s i a w o j f fits. record { kept = k; fair = lower-fair (matrixIn l) (k .small .fits) s i a (w .fair) j f fits })
+    (λ s i a w o j f fits. record { kept = k; fair = lower-fair (matrixIn l) (k .small .fits) s i a (w .fair) o j f fits })
 goal-steps Longest l k =
     longest-steps (matrixIn l) (k .small .fits) (WorkableFor Longest l) (λ s w. w .fair .sound)
     (λ s j f w. record { kept = k; fair = take-level (matrixIn l) (k .small .fits) costLimit s (w .fair) j f })
@@ -97,22 +96,17 @@ pub sum-workable : (l : List ℕ) (s : Node) → WorkableFor Sum l s → Workabl
 unfolding FairFor
 sum-workable l s w = record { kept = w .kept; fair = w .fair }
 
--- all columns of the root are free, so each of its costs is part of the sum
+-- all columns of the root are free, and its bound is 0
 pub goal-root : (g : Goal) (l cs : List ℕ) → Workable l (root (matrixIn l) cs) → WorkableFor g l (root (matrixIn l) cs)
-unfolding FairFor
+unfolding FairFor root
 goal-root Sum l cs w = record { kept = w .kept; fair = w .fair }
 goal-root Longest l cs w =
     let p : Matrix = matrixIn l in
-    let s : Node = root p cs in
     record {
       kept = w .kept;
       fair = record {
         sound = w .fair .sound;
-        costs = λ k h. omega (
-          arith,
-          w .fair .within,
-          rw (root-free p (w .kept .small .fits) cs k h) at (total-one (width p) k (λ k. on (isFree s k) (costAt s k)) h),
-        );
-        low = omega (arith, w .fair .within);
+        costs = λ k h. fair-cost p (w .kept .small) costLimit (root p cs) (w .fair) k (record { col = h; is-free = root-free p (w .kept .small .fits) cs k h });
+        low = omega arith;
       };
     }

@@ -138,7 +138,7 @@ module _ (p : Matrix) where
     root-comp X h = record { plan = h; agrees = λ k l f. absurd (true≢false (sym (root-free k l) ∙ f)) }
 
   -- each column covers a row
-  some-row : Small p → (j : ℕ) → j < width p → (i : ℕ) × (i < p .rows) × (covers p i j ≡ true)
+  pub some-row : Small p → (j : ℕ) → j < width p → (i : ℕ) × (i < p .rows) × (covers p i j ≡ true)
   unfolding covers
   some-row s j l =
       let r : ℕ = getD (body p j) 0 0 in

@@ -248,7 +248,7 @@ pub used-few : (p : Matrix) → FitsNode p → (s : Node) → length (reduce p s
 used-few p F s = reduce-used precedes p F (λ t. Unit {0}) (λ t i a g o j f fits. tt) s
 
 pub fair-lowers : (p : Matrix) → FitsNode p → (top : ℕ) → Lowers p (Fair p top)
-fair-lowers p F top s i a g o j f fits = lower-fair p F s i a g j f fits
+fair-lowers p F top s i a g o j f fits = lower-fair p F s i a g o j f fits
 
 -- the public reducing call: every plan's price is the bound and its reduced costs, by the identity at the root reduced
 module _ (p : Matrix) (F : FitsNode p) (cs : List ℕ) where

@@ -6,35 +6,36 @@ use Prim.Native.Nat.{ℕ, suc, _+_, _≤_, _<_}
 use native.Mathlib.Omega.{arith}
 use borrow.Author.Tests.{eqb-true, eqb-false, eq-eqb, ne-eqb, not-true, not-false}
 use lib.Dec.{eqb}
-use lib.IntN.{ℤ, pos}
+use lib.IntN.{ℤ, pos, _+ℤ_}
 use lib.ListN.{getD, set, length-set, getD-replicate}
 use lib.Seq.{getD-set-same, getD-set-other}
 use mir.Syntax.{w32}
 use mir.Val.{SFits}
 use Rattle.node.specs.Lists.{member, on, total}
-use Rattle.node.specs.Matrix.{Matrix, width, body, covers, count, price}
-use Rattle.rules.proofs.Sums.{total-cong, total-le, total-ones, total-one, total-zero, on-one, count-same, price-same}
+use Rattle.node.specs.Matrix.{Matrix, width, body, covers, count, signedPrice}
+use Rattle.rules.proofs.Sums.{total-cong, total-le, total-ones, total-zero, on-one, count-same}
 use Rattle.signed.proofs.Exact.{sum-exact, difference-exact}
+use Rattle.verify.proofs.Totals.{Joins, signed-price-same, signed-price-none, signed-price-joins, signed-price-fits}
 use Rattle.counts.specs.Counts.{plus, more, less, rowsMoved}
 use Rattle.desk.specs.declared.Way.{Way}
 use Rattle.desk.specs.declared.Way.the-variants.{Adding, Removing}
 use Rattle.desk.specs.Desk.{Desk, emptyDesk, changes, countChange, newTotal, newMark, moved}
 use Rattle.running.specs.Running.{puts}
 use Rattle.running.specs.Recount.{offIn, Bounded, Recount}
-use Rattle.running.proofs.Sums.{Joins, total-joins}
+use Rattle.running.proofs.Sums.{total-joins}
 use Rattle.running.proofs.Tally.{Tallied, rows-tallied, rows-counts}
 
 off-same : (m : ℕ) (f g : ℕ → ℕ) → ((i : ℕ) → i < m → f i ≡ g i) → offIn m f ≡ offIn m g
 off-same m f g h = total-cong m (λ i. on (not (eqb (f i) 1)) 1) (λ i. on (not (eqb (g i) 1)) 1) (λ i l. rw (h i l))
 
-module _ (p : Matrix) (costs : List ℕ) where
+module _ (p : Matrix) (costs : List ℤ) where
   -- choices that agree on the columns
   pub recount-same : (X Y : ℕ → Bool) (d : Desk) → ((k : ℕ) → k < width p → X k ≡ Y k) → Recount p costs X d → Recount p costs Y d
   recount-same X Y d h w = record {
     marks = λ j l. w .marks j l ∙ h j l;
     covered = λ i l. w .covered i l ∙ count-same p i X Y h;
     off = w .off ∙ off-same (p .rows) (λ i. count p i X) (λ i. count p i Y) (λ i l. count-same p i X Y h);
-    total = w .total ∙ ap pos (price-same p costs X Y h);
+    total = w .total ∙ signed-price-same p costs X Y h;
     marked = w .marked;
     counted = w .counted;
   }
@@ -59,21 +60,13 @@ module _ (p : Matrix) (costs : List ℕ) where
   }
 
   module _ (ok : Bounded p costs) where
-    price-le : (X : ℕ → Bool) → price p costs X ≤ 256000000
-    unfolding price
-    price-le X = omega (arith, ok .cheap, total-le (width p) (λ j. on (X j) (getD costs j 0)) (λ j. getD costs j 0) (λ j l. go (X j) (getD costs j 0)))
-      where
-        go : (a : Bool) (v : ℕ) → on a v ≤ v
-        go true v = omega arith
-        go false v = omega arith
-
-    fits : (n : ℕ) → n ≤ 256000000 → SFits w32 (pos n)
-    fits n h = record { sfits = omega arith }
+    price-fits : (X : ℕ → Bool) → SFits w32 (signedPrice p costs X)
+    price-fits X = signed-price-fits p costs (ok .wide) (ok .cheap) X
 
     -- a step's changes, by a number that leads away from 1: X before and Y after it differ in column j alone
     change-recount : (X Y : ℕ → Bool) (j mark by : ℕ) → j < width p → not (eqb mark 0) ≡ Y j → ((k : ℕ) → (k ≡ j → ⊥) → X k ≡ Y k) →
         (plus 1 by ≡ 1 → ⊥) → (d : Desk) → Recount p costs X d →
-        ((i : ℕ) → cond (member (suc i) (body p j)) (plus (count p i X) by) (count p i X) ≡ count p i Y) → {t : ℤ} → t ≡ pos (price p costs Y) →
+        ((i : ℕ) → cond (member (suc i) (body p j)) (plus (count p i X) by) (count p i X) ≡ count p i Y) → {t : ℤ} → t ≡ signedPrice p costs Y →
         Recount p costs Y (record { marks = set (d .marks) j mark; counts = rowsMoved by (body p j) (d .counts); total = t })
     change-recount X Y j mark by inside set-is others away d w counts-are total-is =
         let e = rowsMoved by (body p j) (d .counts) in
@@ -103,15 +96,17 @@ module _ (p : Matrix) (costs : List ℕ) where
       unfolding count covers
       count-joins i = total-joins X Y j (width p) (λ k. on (member (suc i) (body p k)) 1) joins inside
 
-      price-joins : price p costs Y ≡ price p costs X + getD costs j 0
-      unfolding price
-      price-joins = total-joins X Y j (width p) (λ k. getD costs k 0) joins inside
+      abbrev cost : ℤ
+      cost = getD costs j (pos 0)
 
-      cost-le : getD costs j 0 ≤ 256000000
-      cost-le = omega (arith, ok .cheap, total-one (width p) j (λ k. getD costs k 0) inside)
+      price-joins : signedPrice p costs Y ≡ signedPrice p costs X +ℤ cost
+      price-joins = signed-price-joins p costs X Y j joins inside
 
-      sum-le : price p costs X + getD costs j 0 ≤ 256000000
-      sum-le = omega (arith, price-joins, price-le Y)
+      cost-fits : SFits w32 cost
+      cost-fits = record { sfits = omega (arith, ok .cheap j inside) }
+
+      sum-fits : SFits w32 (signedPrice p costs X +ℤ cost)
+      sum-fits = rw (← price-joins) (price-fits Y)
 
       -- the counts of the body's rows, one more and one less
       up : (m : Bool) (c : ℕ) → c ≤ 256 → cond m (plus c more) c ≡ c + on m 1
@@ -125,19 +120,19 @@ module _ (p : Matrix) (costs : List ℕ) where
       small : (i : ℕ) → count p i X ≤ 256
       small i = omega (arith, count-le X i, ok .wide)
 
-      put-recount : (d : Desk) → Recount p costs X d → Recount p costs Y (moved Adding j (body p j) (pos (getD costs j 0)) d)
+      put-recount : (d : Desk) → Recount p costs X d → Recount p costs Y (moved Adding j (body p j) cost d)
       unfolding moved countChange newTotal newMark
       put-recount d w =
           change-recount X Y j 1 more inside (sym (joins .in′)) (joins .others) (λ h. let z : _≡_ {A = ℕ} 2 1 = h in omega arith) d w
           (λ i. rw (count-joins i) (up (member (suc i) (body p j)) (count p i X) (small i)))
-          (rw (w .total) (sum-exact (pos (price p costs X)) (pos (getD costs j 0)) (fits _ (price-le X)) (fits _ cost-le) (fits _ sum-le) ∙ ap pos (sym price-joins)))
+          (rw (w .total) (sum-exact (signedPrice p costs X) cost (price-fits X) cost-fits sum-fits ∙ sym price-joins))
 
-      lift-recount : (d : Desk) → Recount p costs Y d → Recount p costs X (moved Removing j (body p j) (pos (getD costs j 0)) d)
+      lift-recount : (d : Desk) → Recount p costs Y d → Recount p costs X (moved Removing j (body p j) cost d)
       unfolding moved countChange newTotal newMark
       lift-recount d w =
           change-recount Y X j 0 less inside (sym (joins .out)) (λ k ne. sym (joins .others k ne)) (λ h. let z : _≡_ {A = ℕ} 0 1 = h in omega arith) d w
           (λ i. rw (count-joins i) (down (member (suc i) (body p j)) (count p i X) (small i)))
-          (rw (w .total, price-joins) (difference-exact (pos (price p costs X)) (pos (getD costs j 0)) (fits _ (price-le X)) (fits _ cost-le) (fits _ sum-le)))
+          (rw (w .total, price-joins) (difference-exact (signedPrice p costs X) cost (price-fits X) cost-fits sum-fits))
 
     -- a step of column j on a desk that has the numbers of X
     module _ (X : ℕ → Bool) (d : Desk) (w : Recount p costs X d) (j : ℕ) (inside : j < width p) where
@@ -161,7 +156,7 @@ module _ (p : Matrix) (costs : List ℕ) where
       is-in : (t : Bool) → eqb (getD (d .marks) j 0) 0 ≡ t → X j ≡ not t
       is-in t e = sym (w .marks j inside) ∙ ap not e
 
-      pub moved-recount : (way : Way) → changes way (getD (d .marks) j 0) ≡ true → Recount p costs (next (puts way)) (moved way j (body p j) (pos (getD costs j 0)) d)
+      pub moved-recount : (way : Way) → changes way (getD (d .marks) j 0) ≡ true → Recount p costs (next (puts way)) (moved way j (body p j) (getD costs j (pos 0)) d)
       unfolding changes puts
       moved-recount Adding e = put-recount X (next true) j (record { out = is-in true e; in′ = here true; others = others true }) inside d w
       moved-recount Removing e =
@@ -177,17 +172,13 @@ module _ (p : Matrix) (costs : List ℕ) where
   unfolding count
   count-none i = total-zero (width p) _ (λ k l. refl)
 
-  price-none : price p costs (λ j. false) ≡ 0
-  unfolding price
-  price-none = total-zero (width p) _ (λ k l. refl)
-
   pub empty-recount : Bounded p costs → Recount p costs (λ j. false) (emptyDesk (p .rows))
   unfolding emptyDesk
   empty-recount ok = record {
     marks = λ j l. rw (getD-replicate {A = ℕ} 256 j 0 0 (omega (arith, l, ok .wide)));
     covered = λ i l. getD-replicate {A = ℕ} 64 i 0 0 (omega (arith, l, ok .tall)) ∙ sym (count-none i);
     off = sym (total-ones (p .rows) (λ i. on (not (eqb (count p i (λ j. false)) 1)) 1) (λ i l. rw (count-none i)));
-    total = ap pos (sym price-none);
+    total = sym (signed-price-none p costs);
     marked = refl;
     counted = refl;
   }

@@ -7,20 +7,20 @@ use native.Mathlib.Nat.{zero-add}
 use native.Mathlib.Omega.{arith}
 use borrow.Author.Tests.{eqb-true, eqb-false, eq-eqb, ne-eqb}
 use lib.Dec.{eqb, eqb·suc-suc}
-use lib.IntN.{pos}
+use lib.IntN.{ℤ}
 use lib.ListN.{getD}
 use Rattle.refusals.specs.Refusals.{Fault, fine, fault, accepted}
 use Rattle.node.specs.Lists.{keep, upto, on}
-use Rattle.node.specs.Matrix.{Matrix, width, count, price, IsPlan, named}
+use Rattle.node.specs.Matrix.{Matrix, width, count, signedPrice, IsPlan, named}
 use Rattle.node.proofs.Members.{member-keep, member-upto}
-use Rattle.rules.proofs.Sums.{total-one, total-zero, count-same, price-same}
+use Rattle.rules.proofs.Sums.{total-one, total-zero, count-same}
 use Rattle.dutyfile.specs.File.{rowsIn, columnsIn, parse, instance, bodies}
 use Rattle.dutyfile.specs.Faults.{fileFault, rowsFault}
 use Rattle.dutyfile.proofs.Facts.{Accepted, file-fine}
 use Rattle.dutyfile.proofs.Columns.{file-width}
 use Rattle.dutyfile.proofs.Rising.{bodies-rise, numbers-rise, numbers-member}
-use Rattle.matrix.proofs.Accepted.{file-cheap}
 use Rattle.verify.specs.Verdict.{plan, verdict, checking}
+use Rattle.verify.proofs.Totals.{signed-price-same, file-costs}
 use Rattle.verify.proofs.Meaning.{verdict-plan, plan-verdict}
 use Rattle.verify.proofs.Verdicts.{checking-done}
 use Rattle.desk.specs.declared.ReplyAnswer.the-variants.{Plan, NoPlan}
@@ -43,7 +43,7 @@ module _ (file : List ℕ) (ok : fileFault file ≡ fine) where
   abbrev p : Matrix
   p = instance (parse file) .matrix
 
-  abbrev costs : List ℕ
+  abbrev costs : List ℤ
   costs = parse file .costs
 
   bounded : Bounded p costs
@@ -52,7 +52,7 @@ module _ (file : List ℕ) (ok : fileFault file ≡ fine) where
     wide = omega (arith, file-width file, accepts .walked .header .counts .columns .most);
     tall = accepts .walked .header .counts .rows .most;
     rises = λ j. bodies-rise (rowsIn file) (bodies (parse file .lengths) (parse file .numbers)) j (accepts .rising);
-    cheap = file-cheap file accepts;
+    cheap = file-costs file accepts;
   }
 
   -- one step
@@ -123,8 +123,8 @@ module _ (file : List ℕ) (ok : fileFault file ≡ fine) where
 
     -- what the desk's two numbers say of them
     module _ (d : Desk) (w : Recount p costs X d) where
-      priced : price p costs (named listed) ≡ price p costs X
-      priced = price-same p costs (named listed) X listed-is
+      priced : signedPrice p costs (named listed) ≡ signedPrice p costs X
+      priced = signed-price-same p costs (named listed) X listed-is
 
       covers : d .counts .off ≡ 0 → IsPlan p (named listed)
       covers z i l =
@@ -140,10 +140,10 @@ module _ (file : List ℕ) (ok : fileFault file ≡ fine) where
           w .off
           ∙ total-zero (p .rows) (λ i. on (not (eqb (count p i X) 1)) 1) (λ i l. rw (sym (count-same p i (named listed) X listed-is) ∙ h i l))
 
-      gives : d .counts .off ≡ 0 → checking file listed ≡ accepted (plan (price p costs X))
+      gives : d .counts .off ≡ 0 → checking file listed ≡ accepted (plan (signedPrice p costs X))
       gives z = checked ∙ ap accepted (plan-verdict p costs (named listed) (covers z) ∙ ap plan priced)
 
-      replies : d .counts .off ≡ 0 → replyOf d ≡ Plan (pos (price p costs X))
+      replies : d .counts .off ≡ 0 → replyOf d ≡ Plan (signedPrice p costs X)
       unfolding replying
       replies z = rw (eq-eqb (d .counts .off) 0 z) (ap Plan (w .total))
 
@@ -154,19 +154,19 @@ module _ (file : List ℕ) (ok : fileFault file ≡ fine) where
       agrees : Agrees (replyOf d) (checking file listed)
       agrees = go (eqb (d .counts .off) 0) refl
         where
-          tells : (c : ℕ) → checking file listed ≡ accepted (plan c) → replyOf d ≡ Plan (pos c)
+          tells : (c : ℤ) → checking file listed ≡ accepted (plan c) → replyOf d ≡ Plan c
           tells c e =
               let q : verdict p costs (named listed) ≡ plan c = let z = sym checked ∙ e in cc in
               let v = verdict-plan p costs (named listed) c q in
-              replies (covered (v .covers)) ∙ ap (λ n. Plan (pos n)) (sym priced ∙ v .priced)
+              replies (covered (v .covers)) ∙ ap Plan (sym priced ∙ v .priced)
 
           go : (t : Bool) → eqb (d .counts .off) 0 ≡ t → Agrees (replyOf d) (checking file listed)
           go true e =
               let z : d .counts .off ≡ 0 = eqb-true (d .counts .off) 0 e in
               record {
-                told = λ y h. let q : y ≡ pos (price p costs X) = let r = sym h ∙ replies z in cc in (price p costs X, q, gives z);
+                told = λ y h. let q : y ≡ signedPrice p costs X = let r = sym h ∙ replies z in cc in rw q (gives z);
                 tells = tells;
-                otherwise = λ h. absurd (h (price p costs X) (gives z));
+                otherwise = λ h. absurd (h (signedPrice p costs X) (gives z));
               }
           go false e =
               let n : replyOf d ≡ NoPlan = replies-none (eqb-false (d .counts .off) 0 e) in

@@ -7,12 +7,7 @@ use borrow.Author.Tests.{eqb-true, eqb-false}
 use lib.Dec.{eqb}
 use Rattle.node.specs.Lists.{on, total}
 use Rattle.rules.proofs.Sums.{total-add, total-at, total-cong}
-
--- Y is X with column j
-pub record Joins (X Y : ℕ → Bool) (j : ℕ) : Type 0 where
-  pub out : X j ≡ false
-  pub in′ : Y j ≡ true
-  pub others : (k : ℕ) → (k ≡ j → ⊥) → X k ≡ Y k
+use Rattle.verify.proofs.Totals.{Joins}
 
 pub total-joins : (X Y : ℕ → Bool) (j n : ℕ) (f : ℕ → ℕ) → Joins X Y j → j < n → total n (λ k. on (Y k) (f k)) ≡ total n (λ k. on (X k) (f k)) + f j
 total-joins X Y j n f w h =

@@ -6,7 +6,8 @@ use lib.IntN.{pos, negsuc}
 use lib.ListN.{take}
 use Rattle.endian.specs.Bytes.{same}
 use Rattle.refusals.specs.Refusals.{ask, _then_, accepted, refused, unless}
-use Rattle.dutyfile.specs.File.{lists, entriesOf, entries, parse, contents, header, render, sum, bodies, instance}
+use Rattle.dutyfile.specs.declared.Edition.the-variants.{Spp1, Spp2}
+use Rattle.dutyfile.specs.File.{editionIn, lists, entriesOf, entries, parse, contents, header, render, sum, bodies, instance}
 use Rattle.dutyfile.specs.Faults.{rising, countsFault, columnFault, entryFault, entriesFault, bodiesFault, headerFault, contentsFault, endFault, rowsFault, fileFault}
 use Rattle.signed.specs.Signed.{bits, sum32, difference32}
 use Rattle.counts.specs.Counts.{offBy, rowMoved, rowsMoved}
@@ -16,12 +17,15 @@ use Rattle.desk.specs.Desk.{Desk, deskOf, emptyDesk, changes, countChange, newT
 use Rattle.desk.specs.Steps.{changed, unchanged, stepFault, stepping, after, movedBy, stepped}
 use Rattle.running.specs.Running.{Step, run, replyOf}
 
--- m 3, {1,3} at 5, {2} at 7, {2,3} at 2; and m 2, {1,2} at 9
+-- m 3, {1,3} at 5, {2} at 7, {2,3} at 2; m 2, {1,2} at 9; and an SPP2 file (02, P10): m 3, {1,3} at -5, {2} at 5, {2} at 0
 abbrev three : List ℕ
-three = render (lists 3 (5 ∷ 7 ∷ 2 ∷ []) (2 ∷ 1 ∷ 2 ∷ []) (1 ∷ 3 ∷ 2 ∷ 2 ∷ 3 ∷ []))
+three = render (lists Spp1 3 (pos 5 ∷ pos 7 ∷ pos 2 ∷ []) (2 ∷ 1 ∷ 2 ∷ []) (1 ∷ 3 ∷ 2 ∷ 2 ∷ 3 ∷ []))
 
 abbrev pair : List ℕ
-pair = render (lists 2 (9 ∷ []) (2 ∷ []) (1 ∷ 2 ∷ []))
+pair = render (lists Spp1 2 (pos 9 ∷ []) (2 ∷ []) (1 ∷ 2 ∷ []))
+
+abbrev mail : List ℕ
+mail = render (lists Spp2 3 (negsuc 4 ∷ pos 5 ∷ pos 0 ∷ []) (2 ∷ 1 ∷ 1 ∷ []) (1 ∷ 3 ∷ 2 ∷ 2 ∷ []))
 
 abbrev add : ℕ → Step
 add k = record { way = Adding; number = k }
@@ -31,6 +35,9 @@ remove k = record { way = Removing; number = k }
 
 abbrev after-steps : List Step → Desk
 after-steps vs = run three vs (emptyDesk 3)
+
+abbrev after-mail : List Step → Desk
+after-mail vs = run mail vs (emptyDesk 3)
 
 -- how often the first three sailings are covered, how many are off, the bits of the total, and the first mark
 abbrev numbers : Desk → List ℕ
@@ -58,6 +65,17 @@ Replies =
     ∷ replyOf (deskOf [] [] 0 (negsuc 2))
     ∷ [])
     ≡ (NoPlan ∷ Plan (pos 12) ∷ Plan (pos 12) ∷ NoPlan ∷ NoPlan ∷ Plan (pos 12) ∷ Plan (pos 12) ∷ Plan (negsuc 2) ∷ [])
+
+-- prices below 0 and of 0
+abbrev Earnings : Type 0
+Earnings =
+    (replyOf (after-mail (add 1 ∷ add 2 ∷ []))
+    ∷ replyOf (after-mail (add 1 ∷ add 3 ∷ []))
+    -- a duty that earns is taken out, and put in again after the others changed
+    ∷ replyOf (after-mail (add 2 ∷ add 1 ∷ remove 1 ∷ remove 2 ∷ add 3 ∷ add 1 ∷ []))
+    ∷ replyOf (after-mail (add 1 ∷ add 3 ∷ remove 1 ∷ []))
+    ∷ [])
+    ≡ (Plan (pos 0) ∷ Plan (negsuc 4) ∷ Plan (negsuc 4) ∷ NoPlan ∷ [])
 
 -- a desk made over one file and stepped over another
 abbrev Others : Type 0
@@ -91,6 +109,6 @@ Sayings =
     ∷ [])
     ≡ (accepted changed ∷ accepted unchanged ∷ accepted unchanged ∷ refused 19 ∷ refused 19 ∷ refused 3 ∷ [])
 
-deskCases : Replies × Others × Sayings
-unfolding same ask _then_ unless entriesOf entries parse contents header render sum bodies instance rising countsFault columnFault entryFault entriesFault bodiesFault headerFault contentsFault endFault rowsFault fileFault sum32 difference32 offBy rowMoved rowsMoved emptyDesk changes countChange newTotal newMark moved replying stepFault stepping after movedBy stepped run
-deskCases = (refl, refl, refl)
+deskCases : Replies × Earnings × Others × Sayings
+unfolding same ask _then_ unless editionIn entriesOf entries parse contents header render sum bodies instance rising countsFault columnFault entryFault entriesFault bodiesFault headerFault contentsFault endFault rowsFault fileFault sum32 difference32 offBy rowMoved rowsMoved emptyDesk changes countChange newTotal newMark moved replying stepFault stepping after movedBy stepped run
+deskCases = (refl, refl, refl, refl)

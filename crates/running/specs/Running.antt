@@ -4,7 +4,7 @@ use mathlib.Core.Bool.{Bool, true, false, cond}
 use mathlib.Core.List.{List, [], _∷_, map}
 use Prim.Native.Nat.{ℕ, suc}
 use lib.Dec.{eqb}
-use lib.IntN.{ℤ, pos}
+use lib.IntN.{ℤ}
 use Rattle.refusals.specs.Refusals.{Outcome, accepted}
 use Rattle.node.specs.Lists.{keep, upto}
 use Rattle.dutyfile.specs.File.{columnsIn}
@@ -48,9 +48,9 @@ replyOf d = replying (d .counts .off) (d .total)
 
 -- a reply is a plan with its cost exactly when the check gives that plan and cost, else no plan
 pub record Agrees (reply : ReplyAnswer) (check : Outcome Verdict) : Type 0 where
-  pub told : (z : ℤ) → reply ≡ Plan z → (c : ℕ) × (z ≡ pos c) × (check ≡ accepted (plan c))
-  pub tells : (c : ℕ) → check ≡ accepted (plan c) → reply ≡ Plan (pos c)
-  pub otherwise : ((c : ℕ) → check ≡ accepted (plan c) → ⊥) → reply ≡ NoPlan
+  pub told : (z : ℤ) → reply ≡ Plan z → check ≡ accepted (plan z)
+  pub tells : (z : ℤ) → check ≡ accepted (plan z) → reply ≡ Plan z
+  pub otherwise : ((z : ℤ) → check ≡ accepted (plan z) → ⊥) → reply ≡ NoPlan
 
 -- 02's claim, of a file, a desk made empty over it, and a list of steps
 abbrev pub Running : List ℕ → Desk → List Step → Type 0

@@ -1,19 +1,19 @@
 -- The public call: a file is refused by its own tests, then by the plan list's room, the node limit and the lists of columns; and
 -- otherwise what is given is the answer of the rules, of which demand 3 is proved.
-use mathlib.Core.Path.{_≡_, sym, _∙_}
+use mathlib.Core.Path.{_≡_, refl, sym, _∙_}
 use mathlib.Core.List.{List}
 use Prim.Native.Nat.{ℕ, _≤_}
 use native.Mathlib.Omega.{arith}
 use borrow.Author.Tests.{leb-true}
 use Rattle.refusals.specs.Refusals.{fine, fault, _then_, accepted, refused, front, filled}
-use Rattle.refusals.specs.declared.Refusal.{Refusal}
 use Rattle.refusals.proofs.Laws.{both, asked, stops-at, goes-on, unless-fine, unless-fault, fills}
 use Rattle.node.specs.Matrix.{Matrix, width, Shows}
 use Rattle.node.specs.declared.Node.{Node}
 use Rattle.node.specs.Node.{root}
 use Rattle.node.specs.Stored.{matrixIn, Small}
-use Rattle.rules.specs.Search.{Answer, plan, shownBy}
+use Rattle.rules.specs.Search.{plan, shownBy}
 use Rattle.rules.specs.declared.Goal.{Goal}
+use Rattle.rules.specs.declared.Goal.the-variants.{Sum, Longest}
 use Rattle.rules.specs.declared.Forced.{Forced}
 use Rattle.rules.specs.Tree.{answer}
 use Rattle.rules.specs.Agreed.{agreedStart}
@@ -23,8 +23,8 @@ use Rattle.rules.proofs.Plans.{plan-short}
 use Rattle.rules.proofs.Goals.{WorkableFor, goal-root}
 use Rattle.rules.proofs.Requests.{Askable, begun-workable}
 use Rattle.dutyfile.specs.declared.Shape.{Shape}
-use Rattle.dutyfile.specs.File.{parse, instance}
-use Rattle.dutyfile.specs.Faults.{fileFault}
+use Rattle.dutyfile.specs.File.{parse, shift, added, instance, shape}
+use Rattle.dutyfile.specs.Faults.{fileFault, spp1Fault}
 use Rattle.dutyfile.proofs.Facts.{ask-within}
 use Rattle.requests.specs.Numbers.{Begins}
 use Rattle.lists.specs.Loaded.{Loaded}
@@ -32,24 +32,18 @@ use Rattle.tally.specs.Tally.{takenIn}
 use Rattle.solver.specs.declared.Solved.{Solved}
 use Rattle.solver.specs.Solved.{Searchable, solvedAnswer}
 use Rattle.answer.specs.declared.SearchAnswer.{SearchAnswer}
-use Rattle.answer.specs.declared.SearchAnswer.the-variants.{Refused}
-use Rattle.answer.specs.Answer.{searchOutcome, valuesOf, planNumbers, seen}
+use Rattle.answer.specs.Answer.{Values, searchOutcome, valuesOf, planNumbers}
 use Rattle.answer.specs.Plan.{PlanFits}
 use Rattle.answer.proofs.Given.{kept-shown}
 use Rattle.search.specs.Searching.{callFault}
 use Rattle.search.specs.Requests.{requestFault, callFaultWith, faultWith}
-use Rattle.search.specs.Goals.{answerFor, searchingFor, listFor, DemandFor}
+use Rattle.search.specs.Goals.{answerFor, firstFault, searchingFor, listFor, CostDemandFor, DemandFor}
 use Rattle.search.proofs.Listed.{numbers, listed}
-use Rattle.search.proofs.Demanded.{demanded}
+use Rattle.search.proofs.Demanded.{demanded, signed-demanded}
 
--- demand 3 of the answer that is seen
+-- demand 3 of what is answered
 abbrev Demanded : Goal → List ℕ → ℕ → Requests → SearchAnswer → List ℕ → Type 0
-Demanded g file limit q r list = (x : Answer) → seen r list ≡ accepted x → DemandFor g file limit q x
-
--- of a refusal no answer is seen
-pub refused-demand : (g : Goal) (s : List ℕ) (limit : ℕ) (q : Requests) (why : Refusal) (list : List ℕ) → Demanded g s limit q (Refused why) list
-unfolding seen
-refused-demand g s limit q why list = λ x e. absurd (let z : _≡_ {A = ℕ} 0 1 = cc in omega arith)
+Demanded g file limit q r list = (v : Values) → searchOutcome r ≡ accepted v → DemandFor g file limit q v list
 
 -- a file that is read, with its root, for a call that passes its tests
 pub record Rooted (s : List ℕ) (limit places : ℕ) (q : Requests) (found : Shape) (l : List ℕ) (first : Node) : Type 0 where
@@ -57,6 +51,16 @@ pub record Rooted (s : List ℕ) (limit places : ℕ) (q : Requests) (found : Sh
   pub file : Loaded s found l costs
   pub fits : callFaultWith found places limit q ≡ fine
   pub is : first ≡ root (matrixIn l) costs
+
+-- a file of SPP1 passes the first test of either call
+pub first-fine : (g : Goal) (s : List ℕ) → spp1Fault s ≡ fine → firstFault g s ≡ fine
+unfolding firstFault
+first-fine Sum s e = refl
+first-fine Longest s e = e
+
+pub few-rows : (s : List ℕ) (limit places : ℕ) (q : Requests) (found : Shape) (l : List ℕ) (first : Node) → Rooted s limit places q found l first
+    → found .rows ≤ 64
+few-rows s limit places q found l first w = omega (arith, w .file .rows-is, w .file .kept .small .fits .tall)
 
 module _ (g : Goal) (s : List ℕ) (limit places : ℕ) (q : Requests) where
   pub refused-file : (k : ℕ) → fileFault s ≡ fault k → refused k ≡ searchingFor g s limit q places
@@ -113,7 +117,7 @@ module _ (g : Goal) (s : List ℕ) (limit places : ℕ) (q : Requests) where
         small : Small (instance (parse s) .matrix)
         small = rw (w .file .is) at (w .file .kept .small)
 
-        demand : DemandFor g s limit q (answerFor g s limit q)
+        demand : CostDemandFor g s limit q (answerFor g s limit q)
         demand = demanded g s limit q places all-fine
 
         pub plan-fits : PlanFits done (found .columns) places
@@ -124,23 +128,29 @@ module _ (g : Goal) (s : List ℕ) (limit places : ℕ) (q : Requests) where
               let p : Matrix = instance (parse s) .matrix in
               let js : List ℕ = takenIn (found .columns) (done .tally .plan) in
               let e : shownBy (answerFor g s limit q) ≡ plan (done .tally .cost) js = rw answers at (kept-shown (found .columns) done h) in
-              let x : Shows p (Granted p q) (valueFor g p (parse s .costs)) (done .tally .cost) js = demand .shown _ _ e in
+              let x : Shows p (Granted p q) (valueFor g p (instance (parse s) .costs)) (done .tally .cost) js = demand .shown _ _ e in
               let r : found .rows ≤ places = leb-true _ _ (asked _ 10 (both _ _ fits-call .0)) in
               omega (arith, plan-short p small js (x .listed) (x .ok .ok .ok), rw (w .file .is) at (w .file .rows-is), r);
         }
 
-        module _ (r : SearchAnswer) (told : searchOutcome r ≡ accepted (valuesOf (solvedAnswer (found .columns) done))) where
+        module _ (r : SearchAnswer) (by : ℕ) (so : by ≡ shift (found .edition) (found .rows))
+            (told : searchOutcome r ≡ accepted (valuesOf by (solvedAnswer (found .columns) done))) where
+          by-is : by ≡ added s
+          unfolding shape
+          by-is = rw (← w .file .shape-is) at so
+
           pub given-answer : searchOutcome r ≡ searchingFor g s limit q places
           unfolding searchingFor
-          given-answer = told ∙ rw answers (unless-fine (valuesOf (answerFor g s limit q)) all-fine)
+          given-answer = told ∙ rw (answers, by-is) (unless-fine (valuesOf (added s) (answerFor g s limit q)) all-fine)
 
           pub given-plan : (new old : List ℕ) → new ≡ front (planNumbers (shownBy (solvedAnswer (found .columns) done))) old →
               new ≡ filled (searchOutcome r) (listFor g s limit q) old
           unfolding listFor
           given-plan new old h = rw answers at h ∙ sym (fills _ (listFor g s limit q) old told)
 
-        pub given-demand : (r : SearchAnswer) (list : List ℕ) → seen r list ≡ accepted (solvedAnswer (found .columns) done) → Demanded g s limit q r list
-        given-demand r list h = λ x e.
-            let z : accepted x ≡ accepted (answerFor g s limit q) = sym e ∙ rw answers at h in
-            let y : answerFor g s limit q ≡ x = cc in
-            rw y at demand
+          pub given-demand : firstFault g s ≡ fine → (new old : List ℕ) → new ≡ front (planNumbers (shownBy (solvedAnswer (found .columns) done))) old →
+              Demanded g s limit q r new
+          given-demand first new old h = λ v e.
+              let z : accepted v ≡ accepted (valuesOf (added s) (answerFor g s limit q)) = sym e ∙ told ∙ rw (answers, by-is) in
+              let y : valuesOf (added s) (answerFor g s limit q) ≡ v = cc in
+              rw y at (signed-demanded g s limit q places first all-fine new old (rw answers at h))

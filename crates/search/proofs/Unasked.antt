@@ -10,8 +10,10 @@ use Rattle.node.specs.Lists.{member}
 use Rattle.node.specs.Matrix.{Matrix, Instance}
 use Rattle.node.specs.Node.{root}
 use Rattle.rules.specs.declared.Forced.{Forced}
-use Rattle.rules.specs.Tree.{Variant, sum, live, answer}
-use Rattle.rules.specs.Longest.{longest}
+use Rattle.rules.specs.declared.Goal.{Goal}
+use Rattle.rules.specs.declared.Goal.the-variants.{Sum, Longest}
+use Rattle.rules.specs.Tree.{Variant, live, answer}
+use Rattle.rules.specs.Goals.{searchFor}
 use Rattle.rules.specs.Pairs.{pairsOf}
 use Rattle.rules.specs.Requests.{asking, unasked, unstruckStart}
 use Rattle.rules.proofs.Agreed.{agreed-none}
@@ -23,6 +25,7 @@ use Rattle.search.specs.Longest.{longestAnswer, longestSearching, longes
 use Rattle.search.specs.Agreed.{agreedFault, agreedAnswer, agreedSearching, agreedList}
 use Rattle.search.specs.Requests.{arePairs, pairFault, requestFault, callFaultWith, faultWith, searchingWith, planListWith}
 use Rattle.search.specs.Requests.{longestSearchingWith, longestListWith}
+use Rattle.search.specs.Goals.{firstFault}
 use Rattle.search.specs.Unstruck.{unstruckAnswer, unstruckSearching, unstruckList}
 use Rattle.search.proofs.Struck.{apart-search, apart-list, apart-longest, apart-longest-list}
 
@@ -44,48 +47,48 @@ module _ (file : List ℕ) (limit : ℕ) where
     unfolding faultWith callFaultWith requestFault pairFault arePairs agreedFault ask
     faults places = simp then-fine
 
-    pub unpaired-answer : (search : Matrix → Variant)
-        → unstruckAnswer search file limit (asking agreed absent []) ≡ agreedAnswer search file limit agreed absent
+    pub unpaired-answer : (g : Goal)
+        → unstruckAnswer g file limit (asking agreed absent []) ≡ agreedAnswer g file limit agreed absent
     unfolding pairsOf unstruckStart unstruckAnswer agreedAnswer
-    unpaired-answer search =
-        let start : Forced = unstruckStart (search m) m (asking agreed absent []) (root m (p .costs)) in
-        ap (λ (o : Variant). answer o m start limit) (paired-none m (search m))
+    unpaired-answer g =
+        let start : Forced = unstruckStart (searchFor g m) m (asking agreed absent []) (root m (p .costs)) in
+        ap (λ (o : Variant). answer o m start limit) (paired-none m (searchFor g m))
 
-    pub unpaired-search : (search : Matrix → Variant) (places : ℕ)
-        → unstruckSearching search file limit (asking agreed absent []) places ≡ agreedSearching search file limit agreed absent places
+    pub unpaired-search : (g : Goal) (places : ℕ)
+        → unstruckSearching g file limit (asking agreed absent []) places ≡ agreedSearching g file limit agreed absent places
     unfolding unstruckSearching agreedSearching
-    unpaired-search search places = rw (faults places, unpaired-answer search)
+    unpaired-search g places = rw (faults places, unpaired-answer g)
 
-    pub unpaired-list : (search : Matrix → Variant)
-        → unstruckList search file limit (asking agreed absent []) ≡ agreedList search file limit agreed absent
+    pub unpaired-list : (g : Goal)
+        → unstruckList g file limit (asking agreed absent []) ≡ agreedList g file limit agreed absent
     unfolding unstruckList agreedList
-    unpaired-list search = rw (unpaired-answer search)
+    unpaired-list g = rw (unpaired-answer g)
 
   -- two empty lists of columns besides
   no-faults : (places : ℕ) → agreedFault file limit [] [] places ≡ (fileFault file then callFault (shape file) places limit)
   unfolding agreedFault rising ask _then_
   no-faults places = rw (then-fine (callFault (shape file) places limit))
 
-  no-lists : (search : Matrix → Variant) → agreedAnswer search file limit [] [] ≡ answer (search m) m (live (root m (p .costs))) limit
+  no-lists : (g : Goal) → agreedAnswer g file limit [] [] ≡ answer (searchFor g m) m (live (root m (p .costs))) limit
   unfolding agreedAnswer
-  no-lists search = ap (λ (r : Forced). answer (search m) m r limit) (agreed-none (search m) m (root m (p .costs)))
+  no-lists g = ap (λ (r : Forced). answer (searchFor g m) m r limit) (agreed-none (searchFor g m) m (root m (p .costs)))
 
   apart : (j : ℕ) → member j [] ≡ true → member j [] ≡ false
   unfolding member
   apart j m = refl
 
   pub unasked-search : (places : ℕ) → searchingWith file limit unasked places ≡ searching file limit places
-  unfolding agreedSearching searching fileAnswer
-  unasked-search places = apart-search file limit unasked apart places ∙ unpaired-search [] [] sum places ∙ rw (no-faults places, no-lists sum)
+  unfolding searchFor firstFault _then_ agreedSearching searching fileAnswer
+  unasked-search places = apart-search file limit unasked apart places ∙ unpaired-search [] [] Sum places ∙ rw (no-faults places, no-lists Sum)
 
   pub unasked-list : planListWith file limit unasked ≡ planList file limit
-  unfolding agreedList planList fileAnswer
-  unasked-list = apart-list file limit unasked apart ∙ unpaired-list [] [] sum ∙ rw (no-lists sum)
+  unfolding searchFor agreedList planList fileAnswer
+  unasked-list = apart-list file limit unasked apart ∙ unpaired-list [] [] Sum ∙ rw (no-lists Sum)
 
   pub unasked-longest : (places : ℕ) → longestSearchingWith file limit unasked places ≡ longestSearching file limit places
-  unfolding agreedSearching longestSearching longestAnswer
-  unasked-longest places = apart-longest file limit unasked apart places ∙ unpaired-search [] [] longest places ∙ rw (no-faults places, no-lists longest)
+  unfolding searchFor firstFault agreedSearching longestSearching longestAnswer
+  unasked-longest places = apart-longest file limit unasked apart places ∙ unpaired-search [] [] Longest places ∙ rw (no-faults places, no-lists Longest)
 
   pub unasked-longest-list : longestListWith file limit unasked ≡ longestList file limit
-  unfolding agreedList longestList longestAnswer
-  unasked-longest-list = apart-longest-list file limit unasked apart ∙ unpaired-list [] [] longest ∙ rw (no-lists longest)
+  unfolding searchFor agreedList longestList longestAnswer
+  unasked-longest-list = apart-longest-list file limit unasked apart ∙ unpaired-list [] [] Longest ∙ rw (no-lists Longest)

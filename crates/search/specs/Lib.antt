@@ -2,7 +2,8 @@
 -- desk asks besides, as they are now and as P8 had them; and both as one.
 pub mod Searching
 pub mod Longest
-pub mod Agreed
 pub mod Requests
-pub mod Unstruck
 pub mod Goals
+pub mod Agreed
+pub mod Unstruck
+pub mod EarningCases

@@ -7,8 +7,8 @@ use Rattle.node.specs.Node.{root}
 use Rattle.rules.specs.Search.{Answer, shownBy}
 use Rattle.rules.specs.Tree.{live, answer}
 use Rattle.rules.specs.Longest.{longest}
-use Rattle.dutyfile.specs.File.{parse, instance, shape}
-use Rattle.dutyfile.specs.Faults.{fileFault}
+use Rattle.dutyfile.specs.File.{parse, added, instance, shape}
+use Rattle.dutyfile.specs.Faults.{fileFault, spp1Fault}
 use Rattle.answer.specs.Answer.{Values, valuesOf, planNumbers}
 use Rattle.search.specs.Searching.{callFault}
 
@@ -18,7 +18,7 @@ longestAnswer file limit = let p : Instance = instance (parse file) in answer (l
 
 -- searching a file within a node limit, where the lent plan list holds so many places
 unfoldable pub longestSearching : List ℕ → ℕ → ℕ → Outcome Values
-longestSearching file limit places = unless (fileFault file then callFault (shape file) places limit) (valuesOf (longestAnswer file limit))
+longestSearching file limit places = unless (spp1Fault file then fileFault file then callFault (shape file) places limit) (valuesOf (added file) (longestAnswer file limit))
 
 -- what fills the front of the plan list
 unfoldable pub longestList : List ℕ → ℕ → List ℕ

@@ -12,8 +12,8 @@ use Rattle.rules.specs.Tree.{sum, answer}
 use Rattle.rules.specs.Longest.{longest}
 use Rattle.rules.specs.Requests.{Requests, begun, requested}
 use Rattle.dutyfile.specs.declared.Shape.{Shape}
-use Rattle.dutyfile.specs.File.{parse, instance, shape}
-use Rattle.dutyfile.specs.Faults.{within, rising, fileFault}
+use Rattle.dutyfile.specs.File.{parse, added, instance, shape}
+use Rattle.dutyfile.specs.Faults.{within, rising, fileFault, spp1Fault}
 use Rattle.answer.specs.Answer.{Values, valuesOf, planNumbers}
 use Rattle.search.specs.Searching.{callFault}
 
@@ -49,7 +49,7 @@ callFaultWith found places limit q = callFault found places limit then requestFa
 unfoldable pub faultWith : List ℕ → ℕ → Requests → ℕ → Fault
 faultWith file limit q places = fileFault file then callFaultWith (shape file) places limit q
 
--- the rules' answer for a file
+-- the rules' answer for a file, by the costs of a search
 unfoldable pub answerWith : List ℕ → ℕ → Requests → Answer
 answerWith file limit q =
     let p : Instance = instance (parse file) in
@@ -58,12 +58,12 @@ answerWith file limit q =
 
 -- searching a file within a node limit, and what fills the front of the plan list
 unfoldable pub searchingWith : List ℕ → ℕ → Requests → ℕ → Outcome Values
-searchingWith file limit q places = unless (faultWith file limit q places) (valuesOf (answerWith file limit q))
+searchingWith file limit q places = unless (faultWith file limit q places) (valuesOf (added file) (answerWith file limit q))
 
 unfoldable pub planListWith : List ℕ → ℕ → Requests → List ℕ
 planListWith file limit q = planNumbers (shownBy (answerWith file limit q))
 
--- the same for the longest duty
+-- the same for the longest duty, which takes SPP1 alone (02, P10); nothing is added then
 unfoldable pub longestAnswerWith : List ℕ → ℕ → Requests → Answer
 longestAnswerWith file limit q =
     let p : Instance = instance (parse file) in
@@ -71,7 +71,7 @@ longestAnswerWith file limit q =
     answer (requested m q (longest m)) m (begun (longest m) m q (root m (p .costs))) limit
 
 unfoldable pub longestSearchingWith : List ℕ → ℕ → Requests → ℕ → Outcome Values
-longestSearchingWith file limit q places = unless (faultWith file limit q places) (valuesOf (longestAnswerWith file limit q))
+longestSearchingWith file limit q places = unless (spp1Fault file then faultWith file limit q places) (valuesOf (added file) (longestAnswerWith file limit q))
 
 unfoldable pub longestListWith : List ℕ → ℕ → Requests → List ℕ
 longestListWith file limit q = planNumbers (shownBy (longestAnswerWith file limit q))

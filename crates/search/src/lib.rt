@@ -1,6 +1,7 @@
 // The public search calls on a file: the file is read as a matrix and costs, searched from its root with what a desk asks of a plan, and
 // the plan shown is written.
 use answer::SearchAnswer;
+use dutyfile::Edition;
 use dutyfile::Shape;
 use dutyfile::columns_rise;
 use examine::ReadAnswer;
@@ -8,21 +9,23 @@ use refusals::Check;
 use refusals::Refusal;
 use rules::Goal;
 ghost use mathlib.Core.Path.{_≡_};
+ghost use mathlib.Core.List.{List};
+ghost use Prim.Native.Nat.{ℕ};
+ghost use lib.IntN.{pos};
 ghost use lib.ListN.{length};
-ghost use Rattle.refusals.specs.Refusals.{faultOf, accepted, filled};
-ghost use Rattle.node.specs.Matrix.{Matrix, Instance, price};
+ghost use Rattle.refusals.specs.Refusals.{fine, faultOf, accepted, filled};
+ghost use Rattle.node.specs.Matrix.{Matrix, signedPrice};
 ghost use Rattle.node.specs.Node.{root};
-ghost use Rattle.rules.specs.Search.{Answer};
 ghost use Rattle.rules.specs.Tree.{sum};
-ghost use Rattle.rules.specs.Demand.{Demand3};
 ghost use Rattle.rules.specs.Longest.{dearest, longest};
 ghost use Rattle.rules.specs.Requests.{Requests, asking, begun, requested, Granted};
-ghost use Rattle.dutyfile.specs.File.{parse, instance};
-ghost use Rattle.answer.specs.Answer.{searchOutcome, seen};
+ghost use Rattle.dutyfile.specs.File.{Lists, parse, added, instance};
+ghost use Rattle.answer.specs.Answer.{Values, searchOutcome};
+ghost use Rattle.answer.specs.Demand.{SignedDemand3};
 ghost use Rattle.search.specs.Searching.{callFault};
 ghost use Rattle.search.specs.Requests.{isPair, arePairs, pairFault, requestFault, callFaultWith, searchingWith, planListWith};
 ghost use Rattle.search.specs.Requests.{longestSearchingWith, longestListWith};
-ghost use Rattle.search.specs.Goals.{searchingFor, listFor, DemandFor};
+ghost use Rattle.search.specs.Goals.{firstFault, searchingFor, listFor, DemandFor};
 
 // Whether two numbers are those of two columns of n.
 fn is_pair(n: usize, a: usize, b: usize) -> bool
@@ -132,12 +135,13 @@ fn search_for(
     pairs: &[u16],
     plan: &mut [u16],
 ) -> SearchAnswer
+    requires { ⌜ firstFault goal (now file) ≡ fine ⌝ }
     ensures { λ r. ⌜ searchOutcome r ≡ searchingFor goal (now (file .entry)) limit (asking (now (agreed .entry)) (now (absent .entry)) (now (pairs .entry))) (length (now (plan .entry))) ⌝ }
     ensures { λ r. ⌜ now (plan .exit) ≡ filled (searchOutcome r) (listFor goal (now (file .entry)) limit (asking (now (agreed .entry)) (now (absent .entry)) (now (pairs .entry)))) (now (plan .entry)) ⌝ }
-    ensures { λ r. ⌜ ((x : Answer) → seen r (now (plan .exit)) ≡ accepted x → DemandFor goal (now (file .entry)) limit (asking (now (agreed .entry)) (now (absent .entry)) (now (pairs .entry))) x) ⌝ }
+    ensures { λ r. ⌜ ((v : Values) → searchOutcome r ≡ accepted v → DemandFor goal (now (file .entry)) limit (asking (now (agreed .entry)) (now (absent .entry)) (now (pairs .entry))) v (now (plan .exit))) ⌝ }
 {
     let mut matrix = matrix::no_cells();
-    let mut costs = lists::no_costs();
+    let mut costs = raising::no_costs();
     let found = lists::read_matrix(file, &mut matrix, &mut costs);
     match found {
         ReadAnswer::Refused(why) => SearchAnswer::Refused(why),
@@ -149,7 +153,9 @@ fn search_for(
                     let root = root::root_node(&matrix, costs);
                     let start = requests::begin(goal, root, agreed, absent, &matrix);
                     let done = solver::search_from(goal, start, &matrix, pairs, limit);
-                    answer::give(done, shape.columns, plan)
+                    let edition = shape.edition;
+                    let added = raising::shift(edition, shape.rows);
+                    answer::give(done, shape.columns, added, plan)
                 }
             }
         }
@@ -169,12 +175,12 @@ pub fn search(
 ) -> SearchAnswer
     ensures { λ r. ⌜ searchOutcome r ≡ searchingWith (now (file .entry)) limit (asking (now (agreed .entry)) (now (absent .entry)) (now (pairs .entry))) (length (now (plan .entry))) ⌝ }
     ensures { λ r. ⌜ now (plan .exit) ≡ filled (searchOutcome r) (planListWith (now (file .entry)) limit (asking (now (agreed .entry)) (now (absent .entry)) (now (pairs .entry)))) (now (plan .entry)) ⌝ }
-    ensures { λ r. ⌜ (let p : Instance = instance (parse (now (file .entry))) in let m : Matrix = p .matrix in let q : Requests = asking (now (agreed .entry)) (now (absent .entry)) (now (pairs .entry)) in (x : Answer) → seen r (now (plan .exit)) ≡ accepted x → Demand3 m (requested m q (sum m)) (begun (sum m) m q (root m (p .costs))) (Granted m q) (price m (p .costs)) limit x) ⌝ }
+    ensures { λ r. ⌜ (let d : Lists = parse (now (file .entry)) in let m : Matrix = instance d .matrix in let cs : List ℕ = instance d .costs in let q : Requests = asking (now (agreed .entry)) (now (absent .entry)) (now (pairs .entry)) in (v : Values) → searchOutcome r ≡ accepted v → SignedDemand3 m (requested m q (sum m)) (begun (sum m) m q (root m cs)) (Granted m q) (signedPrice m (d .costs)) (added (now (file .entry))) limit v (now (plan .exit))) ⌝ }
 {
     search_for(Goal::Sum, file, limit, agreed, absent, pairs, plan)
 }
 
-// Searches a duty file within a node limit for a plan whose dearest duty costs least (02, P1), with lists as for `search`: the answer, whose
+// Searches a duty file of SPP1 within a node limit for a plan whose dearest duty costs least (02, P1), with lists as for `search`: the answer, whose
 // cost is the largest of the plan's costs, with the plan that it shows at the front of the list; with no plan, or refused, the list is as
 // it was.
 pub fn longest(
@@ -187,7 +193,10 @@ pub fn longest(
 ) -> SearchAnswer
     ensures { λ r. ⌜ searchOutcome r ≡ longestSearchingWith (now (file .entry)) limit (asking (now (agreed .entry)) (now (absent .entry)) (now (pairs .entry))) (length (now (plan .entry))) ⌝ }
     ensures { λ r. ⌜ now (plan .exit) ≡ filled (searchOutcome r) (longestListWith (now (file .entry)) limit (asking (now (agreed .entry)) (now (absent .entry)) (now (pairs .entry)))) (now (plan .entry)) ⌝ }
-    ensures { λ r. ⌜ (let p : Instance = instance (parse (now (file .entry))) in let m : Matrix = p .matrix in let q : Requests = asking (now (agreed .entry)) (now (absent .entry)) (now (pairs .entry)) in (x : Answer) → seen r (now (plan .exit)) ≡ accepted x → Demand3 m (requested m q (longest m)) (begun (longest m) m q (root m (p .costs))) (Granted m q) (dearest m (p .costs)) limit x) ⌝ }
+    ensures { λ r. ⌜ (let d : Lists = parse (now (file .entry)) in let m : Matrix = instance d .matrix in let cs : List ℕ = instance d .costs in let q : Requests = asking (now (agreed .entry)) (now (absent .entry)) (now (pairs .entry)) in (v : Values) → searchOutcome r ≡ accepted v → SignedDemand3 m (requested m q (longest m)) (begun (longest m) m q (root m cs)) (Granted m q) (λ X. pos (dearest m cs X)) (added (now (file .entry))) limit v (now (plan .exit))) ⌝ }
 {
+    if !dutyfile::begins(file, Edition::Spp1) {
+        return SearchAnswer::Refused(Refusal::Magic);
+    }
     search_for(Goal::Longest, file, limit, agreed, absent, pairs, plan)
 }

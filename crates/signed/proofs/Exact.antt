@@ -7,6 +7,7 @@ use native.Mathlib.Nat.{add-comm}
 use borrow.Author.Tests.{ltb-true, ltb-false}
 use lib.Dec.{ltb}
 use lib.IntN.{ℤ, pos, negsuc, _+ℤ_}
+use lib.Signed.{mag}
 use mir.Syntax.{w32}
 use mir.Val.{SFits}
 use mir.Facts.{toZ-ofZ, fits-ofZ}
@@ -37,3 +38,14 @@ module _ (a b : ℤ) (f : SFits w32 a) (g : SFits w32 b) (h : SFits w32 (a +ℤ 
     where
       back : (x y s : ℕ) → x < 4294967296 → y < 4294967296 → (x + y) % 4294967296 ≡ s → (s + (4294967296 - y)) % 4294967296 ≡ x
       back x y s u v e = omega arith
+
+-- how large a sum is
+mag-either : (t : Bool) (a b : ℕ) → mag (cond t (negsuc (b - suc a)) (pos (a - b))) ≤ a + b
+mag-either true a b = omega arith
+mag-either false a b = omega arith
+
+pub mag-add : (a b : ℤ) → mag (a +ℤ b) ≤ suc (mag a + mag b)
+mag-add (pos a) (pos b) = omega arith
+mag-add (pos a) (negsuc b) = omega (arith, mag-either (ltb a (suc b)) a (suc b))
+mag-add (negsuc a) (pos b) = omega (arith, mag-either (ltb b (suc a)) b (suc a))
+mag-add (negsuc a) (negsuc b) = omega arith

@@ -1,15 +1,19 @@
 -- From bits to a number and back, by the signs: omega reads no ℤ.
 use mathlib.Core.Path.{_≡_, refl, sym, ap, _∙_}
 use mathlib.Core.Bool.{true, false, false≢true}
+use mathlib.Core.List.{List, _∷_}
 use Prim.Native.Nat.{ℕ, zero, suc, _+_, _-_, _%_, _^_, _≤_, _<_}
+use native.Mathlib.Numerals.{add-one}
 use native.Mathlib.Omega.{arith}
 use borrow.Author.Tests.{le-ltb}
 use lib.Dec.{T, ltb}
 use lib.IntN.{ℤ, pos, negsuc, natAbs, _-ℤ_}
+use lib.ListN.{length, getD, drop}
+use lib.Seq.{drop-cons}
 use lib.Signed.{mag, ltZ, nonNeg}
-use mir.Syntax.{Width, w32}
+use mir.Syntax.{Width, w32, w64}
 use mir.Val.{SFits, Fits, toZ, ofZ, hbits, bits as size}
-use mir.Facts.{toZ-ofZ, toZ-pos, fits-natAbs}
+use mir.Facts.{toZ-ofZ, toZ-pos, fits-natAbs, sfits-widen}
 use Rattle.signed.specs.Signed.{signed, bits, sum32, difference32}
 
 -- a number that a call gives, as it is read back from its bits: `given r (c .call .ok)`
@@ -121,3 +125,25 @@ module _ (z : ℤ) (f : SFits w32 z) (u : Under w32 z) where
 
   pub under-is : 4294967295 - natAbs (toZ w32 (ofZ w32 (negsuc 0 -ℤ toZ w32 (ofZ w32 z)))) ≡ bits z
   under-is = rw (again w32 tt z f u, u .is) (omega (arith, u .small))
+
+-- in 64 bits
+module _ (z : ℤ) (f : SFits w32 z) where
+  pub widened : SFits w64 z
+  widened = sfits-widen {w = w32} {w′ = w64} tt f
+
+  pub wide-fits : SFits w64 (toZ w32 (ofZ w32 z))
+  wide-fits = rw (toZ-ofZ f) widened
+
+  pub wide-is : toZ w64 (ofZ w64 (toZ w32 (ofZ w32 z))) ≡ z
+  wide-is = rw (toZ-ofZ f) (toZ-ofZ {w = w64} widened)
+
+module _ (z : ℤ) (f : SFits w64 z) (u : Under w64 z) where
+  pub under-more : Fits w64 (natAbs (toZ w64 (ofZ w64 (negsuc 0 -ℤ toZ w64 (ofZ w64 z)))) + 1)
+  under-more = rw (again w64 tt z f u) (record { fits = omega (arith, u .small) })
+
+  pub under-abs : natAbs (toZ w64 (ofZ w64 (negsuc 0 -ℤ toZ w64 (ofZ w64 z)))) + 1 ≡ natAbs z
+  under-abs = rw (again w64 tt z f u, u .is) (omega arith)
+
+-- what is left of a list of numbers from a place on
+pub from-place : (l : List ℤ) (k : ℕ) → k < length l → drop k l ≡ getD l k (pos 0) ∷ drop (k + 1) l
+from-place l k h = rw add-one (drop-cons l k (pos 0) h)

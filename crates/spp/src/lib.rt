@@ -10,18 +10,22 @@ use flat_desk::SppReply;
 use flat_desk::SppStep;
 use flat_uncrewed::SppUncrewed;
 ghost use mathlib.Core.Path.{_≡_};
+ghost use mathlib.Core.List.{List};
+ghost use Prim.Native.Nat.{ℕ};
+ghost use lib.IntN.{pos};
 ghost use lib.ListN.{length};
 ghost use Rattle.refusals.specs.Refusals.{accepted, filled};
-ghost use Rattle.node.specs.Matrix.{Matrix, Instance, price};
+ghost use Rattle.node.specs.Matrix.{Matrix, signedPrice};
 ghost use Rattle.node.specs.Node.{root};
 ghost use Rattle.rules.specs.Tree.{sum};
-ghost use Rattle.rules.specs.Demand.{Demand3};
 ghost use Rattle.rules.specs.Longest.{dearest, longest};
 ghost use Rattle.rules.specs.Requests.{Requests, asking, begun, requested, Granted};
-ghost use Rattle.dutyfile.specs.File.{parse, lists, render, instance};
+ghost use Rattle.dutyfile.specs.declared.Edition.the-variants.{Spp1, Spp2};
+ghost use Rattle.dutyfile.specs.File.{Lists, parse, lists, render, added, instance};
 ghost use Rattle.dutyfile.specs.Faults.{fileFault, reading, writing};
 ghost use Rattle.verify.specs.Verdict.{checking};
 ghost use Rattle.reduce.specs.Answer.{reducing, reducedCosts, usedRows};
+ghost use Rattle.answer.specs.Demand.{SignedDemand3};
 ghost use Rattle.search.specs.Requests.{searchingWith, planListWith, longestSearchingWith, longestListWith};
 ghost use Rattle.trials.specs.Trials.{Finding};
 ghost use Rattle.trials.specs.Told.{Told};
@@ -34,13 +38,13 @@ ghost use Rattle.desk.specs.Steps.{stepping, stepped, emptied};
 ghost use Rattle.flat_assign.specs.Struct.{assignedOf, outcomeIn};
 ghost use Rattle.flat_desk.specs.Struct.{faultNumber, stepOf, replyIn};
 ghost use Rattle.flat_uncrewed.specs.Struct.{uncrewedOf, uncrewedIn};
-ghost use Rattle.flat.specs.Flat.{shapeOf, writtenOf, checkedOf, reducedOf, answerOf, seenIn};
+ghost use Rattle.flat.specs.Flat.{shapeOf, writtenOf, checkedOf, reducedOf, answerOf, valuesIn};
 
-// Reads a duty file: m, n and t, with the front of each list filled; or a refusal, with every list as it was.
+// Reads a duty file: m, n and t, and its edition, with the front of each list filled; or a refusal, with every list as it was.
 #[no_mangle]
 pub extern "C" fn spp_core_read(
     file: &[u8],
-    costs: &mut [u32],
+    costs: &mut [i32],
     lengths: &mut [u16],
     rows: &mut [u8],
 ) -> SppShape
@@ -53,19 +57,35 @@ pub extern "C" fn spp_core_read(
     flat::flat_shape(answer)
 }
 
-// Writes a duty file: its length, with the file at the front of the buffer; or a refusal, with the buffer as it was.
+// Writes a duty file of SPP1: its length, with the file at the front of the buffer; or a refusal, with the buffer as it was.
 #[no_mangle]
 pub extern "C" fn spp_core_write(
     rows: u16,
-    costs: &[u32],
+    costs: &[i32],
     lengths: &[u16],
     numbers: &[u8],
     out: &mut [u8],
 ) -> SppWritten
-    ensures { λ r. ⌜ r ≡ writtenOf (writing (lists rows (now (costs .entry)) (now (lengths .entry)) (now (numbers .entry))) (length (now (out .entry)))) ⌝ }
-    ensures { λ _. ⌜ now (out .exit) ≡ filled (writing (lists rows (now (costs .entry)) (now (lengths .entry)) (now (numbers .entry))) (length (now (out .entry)))) (render (lists rows (now (costs .entry)) (now (lengths .entry)) (now (numbers .entry)))) (now (out .entry)) ⌝ }
+    ensures { λ r. ⌜ r ≡ writtenOf (writing (lists Spp1 rows (now (costs .entry)) (now (lengths .entry)) (now (numbers .entry))) (length (now (out .entry)))) ⌝ }
+    ensures { λ _. ⌜ now (out .exit) ≡ filled (writing (lists Spp1 rows (now (costs .entry)) (now (lengths .entry)) (now (numbers .entry))) (length (now (out .entry)))) (render (lists Spp1 rows (now (costs .entry)) (now (lengths .entry)) (now (numbers .entry)))) (now (out .entry)) ⌝ }
 {
     let answer = writer::write(rows, costs, lengths, numbers, out);
+    flat::flat_written(answer)
+}
+
+// Writes a duty file of SPP2: its length, with the file at the front of the buffer; or a refusal, with the buffer as it was.
+#[no_mangle]
+pub extern "C" fn spp_core_write2(
+    rows: u16,
+    costs: &[i32],
+    lengths: &[u16],
+    numbers: &[u8],
+    out: &mut [u8],
+) -> SppWritten
+    ensures { λ r. ⌜ r ≡ writtenOf (writing (lists Spp2 rows (now (costs .entry)) (now (lengths .entry)) (now (numbers .entry))) (length (now (out .entry)))) ⌝ }
+    ensures { λ _. ⌜ now (out .exit) ≡ filled (writing (lists Spp2 rows (now (costs .entry)) (now (lengths .entry)) (now (numbers .entry))) (length (now (out .entry)))) (render (lists Spp2 rows (now (costs .entry)) (now (lengths .entry)) (now (numbers .entry)))) (now (out .entry)) ⌝ }
+{
+    let answer = writer::write2(rows, costs, lengths, numbers, out);
     flat::flat_written(answer)
 }
 
@@ -78,10 +98,10 @@ pub extern "C" fn spp_core_check(file: &[u8], columns: &[u16]) -> SppChecked
     flat::flat_checked(answer)
 }
 
-// Reduces a duty file as it stands: the lower bound and the number of rows used, with the reduced costs and the rows used at the front of
+// Reduces a duty file of SPP1 as it stands: the lower bound and the number of rows used, with the reduced costs and the rows used at the front of
 // the lists; or a refusal, with both lists as they were.
 #[no_mangle]
-pub extern "C" fn spp_core_reduce(file: &[u8], reduced: &mut [u32], order: &mut [u8]) -> SppReduced
+pub extern "C" fn spp_core_reduce(file: &[u8], reduced: &mut [i32], order: &mut [u8]) -> SppReduced
     ensures { λ r. ⌜ r ≡ reducedOf (reducing (now (file .entry)) (length (now (reduced .entry))) (length (now (order .entry)))) ⌝ }
     ensures { λ _. ⌜ now (reduced .exit) ≡ filled (reducing (now (file .entry)) (length (now (reduced .entry))) (length (now (order .entry)))) (reducedCosts (now (file .entry))) (now (reduced .entry)) ⌝ }
     ensures { λ _. ⌜ now (order .exit) ≡ filled (reducing (now (file .entry)) (length (now (reduced .entry))) (length (now (order .entry)))) (usedRows (now (file .entry))) (now (order .entry)) ⌝ }
@@ -104,13 +124,13 @@ pub extern "C" fn spp_core_search(
 ) -> SppAnswer
     ensures { λ r. ⌜ r ≡ answerOf (searchingWith (now (file .entry)) «node_limit» (asking (now (agreed .entry)) (now (absent .entry)) (now (pairs .entry))) (length (now (plan .entry)))) ⌝ }
     ensures { λ _. ⌜ now (plan .exit) ≡ filled (searchingWith (now (file .entry)) «node_limit» (asking (now (agreed .entry)) (now (absent .entry)) (now (pairs .entry))) (length (now (plan .entry)))) (planListWith (now (file .entry)) «node_limit» (asking (now (agreed .entry)) (now (absent .entry)) (now (pairs .entry)))) (now (plan .entry)) ⌝ }
-    ensures { λ r. ⌜ (let p : Instance = instance (parse (now (file .entry))) in let m : Matrix = p .matrix in let q : Requests = asking (now (agreed .entry)) (now (absent .entry)) (now (pairs .entry)) in r .refusal ≡ 0 → Demand3 m (requested m q (sum m)) (begun (sum m) m q (root m (p .costs))) (Granted m q) (price m (p .costs)) «node_limit» (seenIn r (now (plan .exit)))) ⌝ }
+    ensures { λ r. ⌜ (let d : Lists = parse (now (file .entry)) in let m : Matrix = instance d .matrix in let cs : List ℕ = instance d .costs in let q : Requests = asking (now (agreed .entry)) (now (absent .entry)) (now (pairs .entry)) in r .refusal ≡ 0 → SignedDemand3 m (requested m q (sum m)) (begun (sum m) m q (root m cs)) (Granted m q) (signedPrice m (d .costs)) (added (now (file .entry))) «node_limit» (valuesIn r) (now (plan .exit))) ⌝ }
 {
     let answer = search::search(file, node_limit, agreed, absent, pairs, plan);
     flat::flat_answer(answer)
 }
 
-// Searches a duty file for a plan whose dearest duty costs least, with lists as for `spp_core_search`, within a node limit: best, none or
+// Searches a duty file of SPP1 for a plan whose dearest duty costs least, with lists as for `spp_core_search`, within a node limit: best, none or
 // stopped, where the price is the largest of the plan's costs, with the columns of the plan shown at the front of the list; or a refusal,
 // with the list as it was.
 #[no_mangle]
@@ -124,7 +144,7 @@ pub extern "C" fn spp_core_longest(
 ) -> SppAnswer
     ensures { λ r. ⌜ r ≡ answerOf (longestSearchingWith (now (file .entry)) «node_limit» (asking (now (agreed .entry)) (now (absent .entry)) (now (pairs .entry))) (length (now (plan .entry)))) ⌝ }
     ensures { λ _. ⌜ now (plan .exit) ≡ filled (longestSearchingWith (now (file .entry)) «node_limit» (asking (now (agreed .entry)) (now (absent .entry)) (now (pairs .entry))) (length (now (plan .entry)))) (longestListWith (now (file .entry)) «node_limit» (asking (now (agreed .entry)) (now (absent .entry)) (now (pairs .entry)))) (now (plan .entry)) ⌝ }
-    ensures { λ r. ⌜ (let p : Instance = instance (parse (now (file .entry))) in let m : Matrix = p .matrix in let q : Requests = asking (now (agreed .entry)) (now (absent .entry)) (now (pairs .entry)) in r .refusal ≡ 0 → Demand3 m (requested m q (longest m)) (begun (longest m) m q (root m (p .costs))) (Granted m q) (dearest m (p .costs)) «node_limit» (seenIn r (now (plan .exit)))) ⌝ }
+    ensures { λ r. ⌜ (let d : Lists = parse (now (file .entry)) in let m : Matrix = instance d .matrix in let cs : List ℕ = instance d .costs in let q : Requests = asking (now (agreed .entry)) (now (absent .entry)) (now (pairs .entry)) in r .refusal ≡ 0 → SignedDemand3 m (requested m q (longest m)) (begun (longest m) m q (root m cs)) (Granted m q) (λ X. pos (dearest m cs X)) (added (now (file .entry))) «node_limit» (valuesIn r) (now (plan .exit))) ⌝ }
 {
     let answer = search::longest(file, node_limit, agreed, absent, pairs, plan);
     flat::flat_answer(answer)

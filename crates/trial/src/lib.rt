@@ -4,6 +4,7 @@ use rules::Goal;
 use solver::Solved;
 ghost use mathlib.Core.Path.{_≡_};
 ghost use Prim.Native.Nat.{suc, _+_, _-_, _≤_};
+ghost use lib.IntN.{pos};
 ghost use lib.ListN.{replicate};
 ghost use lib.Seq.{sets};
 ghost use Rattle.node.specs.Lists.{from};
@@ -15,12 +16,12 @@ ghost use Rattle.trial.specs.Ready.{held, Ready, Places};
 fn append(
     found: Shape,
     k: usize,
-    costs: &mut [u32; 256],
+    costs: &mut [i32; 256],
     lengths: &mut [u16; 256],
     numbers: &mut [u8; 4096],
 )
     requires { ⌜ Places found k ⌝ }
-    ensures { λ _. ⌜ now (costs .exit) ≡ sets (now (costs .entry)) (found .columns) (replicate (found .rows - k) 1) ⌝ }
+    ensures { λ _. ⌜ now (costs .exit) ≡ sets (now (costs .entry)) (found .columns) (replicate (found .rows - k) (pos 1)) ⌝ }
     ensures { λ _. ⌜ now (lengths .exit) ≡ sets (now (lengths .entry)) (found .columns) (replicate (found .rows - k) 1) ⌝ }
     ensures { λ _. ⌜ now (numbers .exit) ≡ sets (now (numbers .entry)) (found .entries) (from (found .rows - k) (suc k)) ⌝ }
 {
@@ -39,7 +40,7 @@ fn append(
 // Searches trial k of a file, by the lists of the file, within the whole node limit.
 pub fn search_trial(
     found: Shape,
-    costs: [u32; 256],
+    costs: [i32; 256],
     lengths: [u16; 256],
     numbers: [u8; 4096],
     k: usize,
@@ -61,7 +62,9 @@ pub fn search_trial(
         &all_numbers[0..entries],
         &mut matrix,
     );
-    let first = root::root_node(&matrix, all_costs);
+    let edition = found.edition;
+    let raised = raising::raise_all(edition, &all_costs[0..columns], &all_lengths[0..columns]);
+    let first = root::root_node(&matrix, raised);
     let none = [0u16; 0];
     solver::search_live(Goal::Sum, first, &matrix, &none, limit)
 }

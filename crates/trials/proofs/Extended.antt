@@ -1,9 +1,11 @@
 -- The lists of a trial pass the writer's tests, so its file passes the reader's tests and holds them.
 use mathlib.Core.Path.{_≡_, refl, _∙_}
+use mathlib.Core.Bool.{true}
 use mathlib.Core.List.{List, [], _∷_, _++_, map}
 use Prim.Native.Nat.{ℕ, zero, suc, _+_, _-_, _≤_}
 use native.Mathlib.Nat.{zero-add, add-zero}
 use native.Mathlib.Omega.{arith}
+use lib.IntN.{ℤ, pos}
 use lib.ListN.{length, drop, replicate, length-append, length-drop, length-replicate}
 use lib.Seq.{take-append-le, drop-append-le}
 use borrow.Author.Tests.{le-leb, lt-ltb}
@@ -11,28 +13,34 @@ use Rattle.refusals.specs.Refusals.{fine, ask, _then_}
 use Rattle.refusals.proofs.Laws.{both, passes}
 use Rattle.node.specs.Lists.{from}
 use Rattle.node.proofs.Members.{length-from}
+use Rattle.dutyfile.specs.declared.Edition.{Edition}
+use Rattle.dutyfile.specs.declared.Edition.the-variants.{Spp1, Spp2}
 use Rattle.dutyfile.specs.File.{Lists, sum, bodies}
-use Rattle.dutyfile.specs.Faults.{rising, columnFault, columnsFault, bodiesFault}
+use Rattle.dutyfile.specs.Faults.{rising, isCost, columnFault, columnsFault, bodiesFault}
 use Rattle.dutyfile.proofs.Facts.{all-pass}
 use Rattle.dutyfile.proofs.Round.{Passing}
 use Rattle.trials.specs.Trials.{extended}
 
-columns-append : (m t : ℕ) (cs ls ds ks : List ℕ) → length ls ≡ length cs → columnsFault m t cs ls ≡ fine
-    → columnsFault m (t + sum ls) ds ks ≡ fine → columnsFault m t (cs ++ ds) (ls ++ ks) ≡ fine
+columns-append : (ed : Edition) (m t : ℕ) (cs : List ℤ) (ls : List ℕ) (ds : List ℤ) (ks : List ℕ) → length ls ≡ length cs
+    → columnsFault ed m t cs ls ≡ fine → columnsFault ed m (t + sum ls) ds ks ≡ fine → columnsFault ed m t (cs ++ ds) (ls ++ ks) ≡ fine
 unfolding columnsFault sum
-columns-append m t [] [] ds ks e p q = rw (add-zero t) at q
-columns-append m t [] (l ∷ ls) ds ks e p q = absurd (omega arith)
-columns-append m t (c ∷ cs) [] ds ks e p q = absurd (omega arith)
-columns-append m t (c ∷ cs) (l ∷ ls) ds ks e p q =
+columns-append ed m t [] [] ds ks e p q = rw (add-zero t) at q
+columns-append ed m t [] (l ∷ ls) ds ks e p q = absurd (omega arith)
+columns-append ed m t (c ∷ cs) [] ds ks e p q = absurd (omega arith)
+columns-append ed m t (c ∷ cs) (l ∷ ls) ds ks e p q =
     let b = both _ _ p in
     let s : t + (l + sum ls) ≡ t + l + sum ls = omega arith in
-    all-pass (b .0) (columns-append m (t + l) cs ls ds ks (omega arith) (b .1) (rw s at q))
+    all-pass (b .0) (columns-append ed m (t + l) cs ls ds ks (omega arith) (b .1) (rw s at q))
 
 -- columns of one row each
-ones-fine : (m t e : ℕ) → 1 ≤ m → t + e ≤ 4096 → columnsFault m t (replicate e 1) (replicate e 1) ≡ fine
+one-cost : (ed : Edition) → isCost ed (pos 1) ≡ true
+one-cost Spp1 = refl
+one-cost Spp2 = refl
+
+ones-fine : (ed : Edition) (m t e : ℕ) → 1 ≤ m → t + e ≤ 4096 → columnsFault ed m t (replicate e (pos 1)) (replicate e 1) ≡ fine
 unfolding columnsFault columnFault ask _then_
-ones-fine m t zero l h = refl
-ones-fine m t (suc e) l h = simp (le-leb 1 m l, le-leb (t + 1) 4096 (omega arith), ones-fine m (t + 1) e l (omega arith))
+ones-fine ed m t zero l h = refl
+ones-fine ed m t (suc e) l h = simp (one-cost ed, le-leb 1 m l, le-leb (t + 1) 4096 (omega arith), ones-fine ed m (t + 1) e l (omega arith))
 
 bodies-append : (ls ns ks rs : List ℕ) → length ns ≡ sum ls → bodies (ls ++ ks) (ns ++ rs) ≡ bodies ls ns ++ bodies ks rs
 unfolding bodies sum
@@ -109,8 +117,8 @@ module _ (d : Lists) (x : Extendable d) (k : ℕ) (one : 1 ≤ k) (low : k ≤ d
         };
         same = simp (length-append, length-replicate, p .same);
         columns =
-            columns-append (d .rows) 0 (d .costs) (d .lengths) _ _ (p .same) (p .columns)
-            (rw (zero-add (sum (d .lengths))) (ones-fine (d .rows) (sum (d .lengths)) (d .rows - k) r (omega (arith, x .full, one))));
+            columns-append (d .edition) (d .rows) 0 (d .costs) (d .lengths) _ _ (p .same) (p .columns)
+            (rw (zero-add (sum (d .lengths))) (ones-fine (d .edition) (d .rows) (sum (d .lengths)) (d .rows - k) r (omega (arith, x .full, one))));
         whole = simp (length-append, length-from) (omega (arith, p .whole, sum-extended));
         bodies =
             rw bodies-extended

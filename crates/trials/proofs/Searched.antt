@@ -23,7 +23,7 @@ use Rattle.rules.specs.Demand.{Demand3}
 use Rattle.rules.proofs.Plans.{plan-short}
 use Rattle.rules.proofs.Sums.{count-same}
 use Rattle.rules.proofs.Sum.{sum-demand-3}
-use Rattle.dutyfile.specs.File.{Lists, parse, render, instance, shape}
+use Rattle.dutyfile.specs.File.{Lists, parse, added, render, instance, shape}
 use Rattle.dutyfile.specs.Faults.{rising}
 use Rattle.dutyfile.proofs.Facts.{all-pass, within-asks, file-fine}
 use Rattle.dutyfile.proofs.Columns.{length-bodies}
@@ -76,7 +76,7 @@ module _ (d : Lists) (x : Extendable d) (limit k : ℕ) (one : 1 ≤ k) (low : k
 
   -- the search call of 01 takes the trial's file, and its answer is the trial's
   pub trial-searching : (places : ℕ) → d .rows ≤ places → 1 ≤ limit → limit ≤ 1000000
-      → searching (render (extended k d)) limit places ≡ accepted (valuesOf (trial d limit k))
+      → searching (render (extended k d)) limit places ≡ accepted (valuesOf (added (render (extended k d))) (trial d limit k))
   unfolding searching callFault trial shape parse extended
   trial-searching places room least most =
       let rows : shape (render (extended k d)) .rows ≡ d .rows = ap (λ (x : Lists). x .rows) (back .lists) in

@@ -1,6 +1,7 @@
 -- The trials (02, P6): the file of each, its search, and what they come to, one after another.
 use mathlib.Core.List.{List, [], _++_, map}
 use Prim.Native.Nat.{ℕ, zero, suc, _-_}
+use lib.IntN.{pos}
 use lib.ListN.{length, replicate}
 use lib.Dec.{ltb}
 use Rattle.node.specs.Lists.{keep, from}
@@ -12,7 +13,7 @@ use Rattle.search.specs.Searching.{fileAnswer}
 unfoldable pub extended : ℕ → Lists → Lists
 extended k d =
     let e : ℕ = d .rows - k in
-    lists (d .rows) (d .costs ++ replicate e 1) (d .lengths ++ replicate e 1) (d .numbers ++ from e (suc k))
+    lists (d .edition) (d .rows) (d .costs ++ replicate e (pos 1)) (d .lengths ++ replicate e 1) (d .numbers ++ from e (suc k))
 
 -- trial k: the search of 01 on the file of these lists
 unfoldable pub trial : Lists → ℕ → ℕ → Answer

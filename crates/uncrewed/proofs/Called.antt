@@ -1,12 +1,13 @@
--- The public call: a file is refused by its own tests, then by those of the trials, the list's room and the node limit; and otherwise what
--- is found is the finding of the trials, of which what a desk reads is proved.
+-- The call for either edition: a file is refused by its own tests, then by those of the trials, the list's room and the node limit; and
+-- otherwise what is found is the finding of the trials, of which what a desk reads is proved.
 use mathlib.Core.Path.{_≡_, refl, ap, sym, _∙_}
 use mathlib.Core.List.{List}
 use Prim.Native.Nat.{ℕ, _+_, _-_, _≤_}
 use native.Mathlib.Omega.{arith}
+use lib.IntN.{ℤ}
 use lib.ListN.{length}
 use borrow.Author.Tests.{leb-true}
-use Rattle.refusals.specs.Refusals.{fine, fault, _then_, Outcome, accepted, refused, front, filled}
+use Rattle.refusals.specs.Refusals.{fine, fault, _then_, Outcome, accepted, refused, unless, front, filled}
 use Rattle.refusals.proofs.Laws.{both, asked, stops-at, goes-on, unless-fine, unless-fault, fills, front-take}
 use Rattle.dutyfile.specs.declared.Shape.{Shape}
 use Rattle.dutyfile.specs.File.{parse, shape}
@@ -22,7 +23,7 @@ use Rattle.trials.proofs.Extended.{Extendable}
 use Rattle.trials.proofs.Told.{finding-told}
 use Rattle.trial.specs.Ready.{held, Ready}
 use Rattle.uncrewed.specs.declared.UncrewedAnswer.{UncrewedAnswer}
-use Rattle.uncrewed.specs.Answer.{Values, uncrewedOutcome, valuesOf, shownOf, seen, trialsFault, uncrewedFault, uncrewing, uncrewedList, Sized}
+use Rattle.uncrewed.specs.Answer.{Values, uncrewedOutcome, valuesOf, shownOf, seen, trialsFault, uncrewedFault, fileUncrewedFault, uncrewedList, Sized}
 
 -- what a desk reads of the answer that is seen
 abbrev Tells : List ℕ → ℕ → Outcome Values → List ℕ → Type 0
@@ -41,7 +42,7 @@ seen-is plan-exists old list e = refl
 seen-is (stopped-at k) old list e = refl
 
 -- the numbers of a file that is read
-pub sized : (s : List ℕ) (found : Shape) (costs lengths numbers : List ℕ) → Fronts s found costs lengths numbers → Sized found
+pub sized : (s : List ℕ) (found : Shape) (costs : List ℤ) (lengths numbers : List ℕ) → Fronts s found costs lengths numbers → Sized found
 unfolding shape contentsFault
 sized s found costs lengths numbers f =
     let a : Accepted s = file-fine s (f .passes) in
@@ -52,14 +53,17 @@ sized s found costs lengths numbers f =
     })
 
 module _ (s : List ℕ) (limit places : ℕ) where
-  pub refused-file : (k : ℕ) → fileFault s ≡ fault k → refused k ≡ uncrewing s limit places
-  unfolding uncrewing
+  abbrev answered : Outcome Values
+  answered = unless (fileUncrewedFault s limit places) (valuesOf (finding (parse s) limit))
+
+  pub refused-file : (k : ℕ) → fileFault s ≡ fault k → refused k ≡ answered
+  unfolding fileUncrewedFault
   refused-file k h = unless-fault _ k (stops-at k _ h)
 
   -- a file that is read
-  module _ (found : Shape) (costs lengths numbers : List ℕ) (f : Fronts s found costs lengths numbers) where
-    pub refused-call : (n : ℕ) → uncrewedFault found places limit ≡ fault n → refused n ≡ uncrewing s limit places
-    unfolding uncrewing
+  module _ (found : Shape) (costs : List ℤ) (lengths numbers : List ℕ) (f : Fronts s found costs lengths numbers) where
+    pub refused-call : (n : ℕ) → uncrewedFault found places limit ≡ fault n → refused n ≡ answered
+    unfolding fileUncrewedFault
     refused-call n h = unless-fault _ n (goes-on _ (f .passes) ∙ rw (sym (f .shape-is)) at h)
 
     held-is : held found costs lengths numbers ≡ parse s
@@ -98,7 +102,6 @@ module _ (s : List ℕ) (limit places : ℕ) where
             lists = rw held-is extendable;
             columns-is = rw (f .costs-front) columns-are;
             entries-is = rw (f .lengths-front) (ap (λ (x : Shape). x .entries) (f .shape-is));
-            costs-is = rw (f .costs-front) (f .costs-is);
             one = l .least;
             limited = l .most;
           }
@@ -108,8 +111,8 @@ module _ (s : List ℕ) (limit places : ℕ) where
       has-room = leb-true _ _ (asked _ 10 (both _ _ call-fits .0))
 
       module _ (r : UncrewedAnswer) (told : uncrewedOutcome r ≡ accepted (valuesOf (finding (held found costs lengths numbers) limit))) where
-        pub given-answer : uncrewedOutcome r ≡ uncrewing s limit places
-        unfolding uncrewing
+        pub given-answer : uncrewedOutcome r ≡ answered
+        unfolding fileUncrewedFault
         given-answer =
             rw held-is at told
             ∙ unless-fine (valuesOf (finding (parse s) limit)) (goes-on _ (f .passes) ∙ rw (sym (f .shape-is)) at fits)

@@ -4,6 +4,7 @@ use mathlib.Core.Bool.{true, false}
 use mathlib.Core.List.{List, [], _∷_, map}
 use Prim.Native.Nat.{ℕ, zero, suc, _+_, _-_, _≤_, _<_}
 use native.Mathlib.Omega.{arith}
+use lib.IntN.{ℤ}
 use lib.Dec.{eqb}
 use lib.ListN.{length, getD, replicate, length-map}
 use Rattle.refusals.specs.Refusals.{accepted, front}
@@ -42,7 +43,7 @@ judged-shown k shown (none n) next d js e = absurd (let z : _≡_ {A = ℕ} 0 1 
 judged-shown k shown (stopped nothing u n) next d js e = absurd (let z : _≡_ {A = ℕ} 0 1 = cc in omega arith)
 judged-shown k shown (stopped (plan c ks) u n) next d js e = let q : ks ≡ js = cc in ap next q
 
-module _ (found : Shape) (costs lengths numbers : List ℕ) (limit : ℕ) where
+module _ (found : Shape) (costs : List ℤ) (lengths numbers : List ℕ) (limit : ℕ) where
   abbrev d : Lists
   d = held found costs lengths numbers
 

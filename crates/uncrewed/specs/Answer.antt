@@ -6,7 +6,7 @@ use lib.ListN.{length, take}
 use Rattle.refusals.specs.Refusals.{Fault, ask, _then_, Outcome, accepted, refused, unless, numberOf}
 use Rattle.dutyfile.specs.declared.Shape.{Shape}
 use Rattle.dutyfile.specs.File.{parse, shape}
-use Rattle.dutyfile.specs.Faults.{fileFault}
+use Rattle.dutyfile.specs.Faults.{fileFault, spp1Fault}
 use Rattle.search.specs.Searching.{callFault}
 use Rattle.trials.specs.Trials.{Finding, no-crew, plan-exists, stopped-at, finding}
 use Rattle.uncrewed.specs.declared.UncrewedAnswer.{UncrewedAnswer}
@@ -51,9 +51,13 @@ trialsFault found = ask (leb (found .columns) 192) 18 then ask (leb (found .entr
 unfoldable pub uncrewedFault : Shape → ℕ → ℕ → Fault
 uncrewedFault found places limit = trialsFault found then callFault found places limit
 
--- the tool on a file within a node limit, where the lent list holds so many places, and what fills the front of the list
+-- the tests of a file before them
+unfoldable pub fileUncrewedFault : List ℕ → ℕ → ℕ → Fault
+fileUncrewedFault file limit places = fileFault file then uncrewedFault (shape file) places limit
+
+-- the tool on a file of SPP1 (02, P10) within a node limit, where the lent list holds so many places, and what fills the front of the list
 unfoldable pub uncrewing : List ℕ → ℕ → ℕ → Outcome Values
-uncrewing file limit places = unless (fileFault file then uncrewedFault (shape file) places limit) (valuesOf (finding (parse file) limit))
+uncrewing file limit places = unless (spp1Fault file then fileUncrewedFault file limit places) (valuesOf (finding (parse file) limit))
 
 unfoldable pub uncrewedList : List ℕ → ℕ → List ℕ
 uncrewedList file limit = shownOf (finding (parse file) limit)

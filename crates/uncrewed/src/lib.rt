@@ -1,4 +1,5 @@
 // The public call that finds which sailings can't be crewed (02, P6): the file is read, and its trials are searched one after another.
+use dutyfile::Edition;
 use dutyfile::Shape;
 use examine::ReadAnswer;
 use refusals::Check;
@@ -6,13 +7,13 @@ use refusals::Refusal;
 ghost use mathlib.Core.Path.{_≡_};
 ghost use Prim.Native.Nat.{_≤_};
 ghost use lib.ListN.{length, replicate};
-ghost use Rattle.refusals.specs.Refusals.{faultOf, accepted, front, filled};
+ghost use Rattle.refusals.specs.Refusals.{faultOf, accepted, unless, front, filled};
 ghost use Rattle.dutyfile.specs.File.{parse};
 ghost use Rattle.trials.specs.Trials.{Finding, finding};
 ghost use Rattle.trials.specs.Told.{Told};
 ghost use Rattle.trial.specs.Ready.{held, Ready};
 ghost use Rattle.uncrewed.specs.Answer.{uncrewedOutcome, valuesOf, shownOf, seen, trialsFault, Sized};
-ghost use Rattle.uncrewed.specs.Answer.{uncrewedFault, uncrewing, uncrewedList};
+ghost use Rattle.uncrewed.specs.Answer.{uncrewedFault, fileUncrewedFault, uncrewing, uncrewedList};
 
 // The smallest row that can't be crewed together with those before it.
 pub struct Reached {
@@ -68,7 +69,7 @@ fn check_uncrewed(found: Shape, places: usize, limit: u32) -> Check
 // The trials of a file, from the first row upwards, each within the whole node limit, by the lists of the file.
 fn run_trials(
     found: Shape,
-    costs: [u32; 256],
+    costs: [i32; 256],
     lengths: [u16; 256],
     numbers: [u8; 4096],
     limit: u32,
@@ -103,15 +104,13 @@ fn run_trials(
     UncrewedAnswer::PlanExists
 }
 
-// Finds the smallest k such that no columns that share no row cover the rows 1 to k of a duty file, by trials within a node limit (01:
-// allowance) each: k, with columns that cover the rows before it at the front of the list; or that a plan exists, or the row whose trial
-// was stopped without a plan; with these two, or refused, the list is as it was.
-pub fn uncrewed(file: &[u8], limit: u32, shown: &mut [u16]) -> UncrewedAnswer
-    ensures { λ r. ⌜ uncrewedOutcome r ≡ uncrewing (now (file .entry)) limit (length (now (shown .entry))) ⌝ }
+// Reads a duty file of either edition, and runs its trials.
+fn uncrewed_file(file: &[u8], limit: u32, shown: &mut [u16]) -> UncrewedAnswer
+    ensures { λ r. ⌜ uncrewedOutcome r ≡ unless (fileUncrewedFault (now (file .entry)) limit (length (now (shown .entry)))) (valuesOf (finding (parse (now (file .entry))) limit)) ⌝ }
     ensures { λ r. ⌜ now (shown .exit) ≡ filled (uncrewedOutcome r) (uncrewedList (now (file .entry)) limit) (now (shown .entry)) ⌝ }
     ensures { λ r. ⌜ ((x : Finding) → seen (uncrewedOutcome r) (now (shown .exit)) ≡ accepted x → Told (parse (now (file .entry))) limit x) ⌝ }
 {
-    let mut costs = lists::no_costs();
+    let mut costs = lists::no_prices();
     let mut lengths = lists::no_lengths();
     let mut numbers = lists::no_numbers();
     let found = lists::read_lists(file, &mut costs, &mut lengths, &mut numbers);
@@ -125,4 +124,18 @@ pub fn uncrewed(file: &[u8], limit: u32, shown: &mut [u16]) -> UncrewedAnswer
             }
         }
     }
+}
+
+// Finds the smallest k such that no columns that share no row cover the rows 1 to k of a duty file of SPP1, by trials within a node limit
+// (01: allowance) each: k, with columns that cover the rows before it at the front of the list; or that a plan exists, or the row whose
+// trial was stopped without a plan; with these two, or refused, the list is as it was.
+pub fn uncrewed(file: &[u8], limit: u32, shown: &mut [u16]) -> UncrewedAnswer
+    ensures { λ r. ⌜ uncrewedOutcome r ≡ uncrewing (now (file .entry)) limit (length (now (shown .entry))) ⌝ }
+    ensures { λ r. ⌜ now (shown .exit) ≡ filled (uncrewedOutcome r) (uncrewedList (now (file .entry)) limit) (now (shown .entry)) ⌝ }
+    ensures { λ r. ⌜ ((x : Finding) → seen (uncrewedOutcome r) (now (shown .exit)) ≡ accepted x → Told (parse (now (file .entry))) limit x) ⌝ }
+{
+    if !dutyfile::begins(file, Edition::Spp1) {
+        return UncrewedAnswer::Refused(Refusal::Magic);
+    }
+    uncrewed_file(file, limit, shown)
 }

@@ -14,8 +14,8 @@ use Rattle.rules.proofs.Sums.{on-one}
 use Rattle.node.specs.Matrix.{Matrix, body, covers}
 use Rattle.dutyfile.specs.Faults.{rising}
 use Rattle.dutyfile.proofs.Rising.{rising-cons, rising-at}
-use Rattle.verify.specs.Counts.{counted, countedAll, tally}
-use Rattle.verify.proofs.Sums.{member-suc}
+use Rattle.verify.specs.Counts.{counted, countedAll}
+use Rattle.verify.proofs.Sums.{member-suc, tally}
 
 -- 1 more at place i
 bump-at : (c : List ℕ) (i j : ℕ) → i < length c → getD (set c i (getD c i 0 + 1)) j 0 ≡ getD c j 0 + on (eqb j i) 1

@@ -1,3 +1,4 @@
+pub mod Totals
 mod Sums
 mod Counting
 mod Walk

@@ -6,7 +6,8 @@ use Prim.Native.Nat.{ℕ, zero, suc, _+_, _≤_, _<_}
 use native.Mathlib.Omega.{arith}
 use borrow.Author.Tests.{eqb-true, eqb-false}
 use lib.Dec.{eqb}
-use Rattle.node.specs.Matrix.{Matrix, count, IsPlan, price}
+use lib.IntN.{ℤ}
+use Rattle.node.specs.Matrix.{Matrix, count, IsPlan, signedPrice}
 use Rattle.verify.specs.Verdict.{Verdict, plan, notOnce, lowest, verdict}
 
 -- of m rows from row i on, row r is the lowest that is not covered once, and it is covered k times
@@ -18,11 +19,11 @@ pub record Lowest (covered : ℕ → ℕ) (m i r k : ℕ) : Type 0 where
   pub before : (j : ℕ) → i ≤ j → j < r → covered j ≡ 1
 
 -- what a verdict says of the rows and of the cost
-pub Says : (ℕ → ℕ) → ℕ → ℕ → ℕ → Verdict → Type 0
+pub Says : (ℕ → ℕ) → ℤ → ℕ → ℕ → Verdict → Type 0
 Says covered cost m i (plan c) = ((k : ℕ) → i ≤ k → k < m + i → covered k ≡ 1) × (cost ≡ c)
 Says covered cost m i (notOnce r k) = (q : ℕ) × (r ≡ suc q) × Lowest covered m i q k
 
-module _ (covered : ℕ → ℕ) (cost : ℕ) where
+module _ (covered : ℕ → ℕ) (cost : ℤ) where
   -- row i is covered once, and v is said of the rows after it
   says-more : (m i : ℕ) → covered i ≡ 1 → (v : Verdict) → Says covered cost m (suc i) v → Says covered cost (suc m) i v
   unfolding Says
@@ -62,24 +63,24 @@ module _ (covered : ℕ → ℕ) (cost : ℕ) where
       go false e s = (i, refl, record { from = omega arith; within = omega arith; times = refl; off = eqb-false _ _ e; before = λ j l h. absurd (omega arith) })
 
 -- A verdict on a choice of columns: it is a plan at its price, or its lowest row that is not covered exactly once is told.
-pub record Plan (p : Matrix) (costs : List ℕ) (X : ℕ → Bool) (c : ℕ) : Type 0 where
+pub record Plan (p : Matrix) (costs : List ℤ) (X : ℕ → Bool) (c : ℤ) : Type 0 where
   pub covers : IsPlan p X
-  pub priced : price p costs X ≡ c
+  pub priced : signedPrice p costs X ≡ c
 
-pub verdict-plan : (p : Matrix) (costs : List ℕ) (X : ℕ → Bool) (c : ℕ) → verdict p costs X ≡ plan c → Plan p costs X c
+pub verdict-plan : (p : Matrix) (costs : List ℤ) (X : ℕ → Bool) (c : ℤ) → verdict p costs X ≡ plan c → Plan p costs X c
 unfolding verdict Says
 verdict-plan p costs X c e =
-    let s = rw e at (lowest-says (λ i. count p i X) (price p costs X) (p .rows) 0) in
+    let s = rw e at (lowest-says (λ i. count p i X) (signedPrice p costs X) (p .rows) 0) in
     record { covers = λ i h. s .0 i (omega arith) (omega arith); priced = s .1 }
 
-pub verdict-not-once : (p : Matrix) (costs : List ℕ) (X : ℕ → Bool) (r k : ℕ) → verdict p costs X ≡ notOnce r k → (q : ℕ) × (r ≡ suc q) × Lowest (λ i. count p i X) (p .rows) 0 q k
+pub verdict-not-once : (p : Matrix) (costs : List ℤ) (X : ℕ → Bool) (r k : ℕ) → verdict p costs X ≡ notOnce r k → (q : ℕ) × (r ≡ suc q) × Lowest (λ i. count p i X) (p .rows) 0 q k
 unfolding verdict Says
-verdict-not-once p costs X r k e = rw e at (lowest-says (λ i. count p i X) (price p costs X) (p .rows) 0)
+verdict-not-once p costs X r k e = rw e at (lowest-says (λ i. count p i X) (signedPrice p costs X) (p .rows) 0)
 
-pub plan-verdict : (p : Matrix) (costs : List ℕ) (X : ℕ → Bool) → IsPlan p X → verdict p costs X ≡ plan (price p costs X)
+pub plan-verdict : (p : Matrix) (costs : List ℤ) (X : ℕ → Bool) → IsPlan p X → verdict p costs X ≡ plan (signedPrice p costs X)
 plan-verdict p costs X h = go (verdict p costs X) refl
   where
-    go : (v : Verdict) → verdict p costs X ≡ v → verdict p costs X ≡ plan (price p costs X)
+    go : (v : Verdict) → verdict p costs X ≡ v → verdict p costs X ≡ plan (signedPrice p costs X)
     go (plan c) e = e ∙ ap plan (sym (verdict-plan p costs X c e .priced))
     go (notOnce r k) e =
         let d = verdict-not-once p costs X r k e in

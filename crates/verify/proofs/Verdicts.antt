@@ -7,22 +7,23 @@ use Prim.Native.Nat.{ℕ, zero, suc, _+_, _-_, _≤_, _<_}
 use native.Mathlib.Numerals.{add-one}
 use native.Mathlib.Omega.{arith}
 use borrow.Author.Tests.{eq-eqb, ne-eqb}
+use lib.IntN.{ℤ}
 use lib.ListN.{getD}
 use Rattle.refusals.specs.Refusals.{fine, accepted, refused, unless}
 use Rattle.refusals.proofs.Laws.{stops-at, goes-on, passes, fails, unless-fine, unless-fault, refuses}
 use Rattle.node.specs.Lists.{on}
-use Rattle.node.specs.Matrix.{covers, count, price, named}
+use Rattle.node.specs.Matrix.{covers, count, named}
 use Rattle.dutyfile.specs.File.{rowsIn, columnsIn, parse, instance, shape}
 use Rattle.dutyfile.specs.Faults.{rising, fileFault}
 use Rattle.dutyfile.proofs.Columns.{file-width, body-rises}
-use Rattle.verify.specs.Counts.{noneCovered, countedAll, tally}
+use Rattle.verify.specs.Counts.{noneCovered, countedAll}
 use Rattle.verify.specs.Verdict.{plan, notOnce, lowest, verdict, checking}
 use Rattle.verify.proofs.Sums.{tally-total}
 use Rattle.verify.proofs.Counting.{counted-all-at}
-use Rattle.verify.proofs.Walk.{fileMatrix, Offered, none-at}
+use Rattle.verify.proofs.Walk.{fileMatrix, offeredPrice, Offered, none-at}
 
 -- row by row
-module _ (covered : ℕ → ℕ) (cost m i : ℕ) (inside : i < m) where
+module _ (covered : ℕ → ℕ) (cost : ℤ) (m i : ℕ) (inside : i < m) where
   more : m - i ≡ suc (m - (i + 1))
   more = omega arith
 
@@ -34,14 +35,14 @@ module _ (covered : ℕ → ℕ) (cost m i : ℕ) (inside : i < m) where
   unfolding lowest
   lowest-next h = rw (more, add-one i) (simp (lowest, eq-eqb _ _ h))
 
-pub lowest-end : (covered : ℕ → ℕ) (cost m i : ℕ) → m ≤ i → lowest covered cost (m - i) i ≡ plan cost
+pub lowest-end : (covered : ℕ → ℕ) (cost : ℤ) (m i : ℕ) → m ≤ i → lowest covered cost (m - i) i ≡ plan cost
 unfolding lowest
 lowest-end covered cost m i h =
     let e : m - i ≡ 0 = omega arith in
     rw e
 
 -- two counts that agree on the rows
-lowest-same : (f g : ℕ → ℕ) (cost m i : ℕ) → ((k : ℕ) → k < m + i → f k ≡ g k) → lowest f cost m i ≡ lowest g cost m i
+lowest-same : (f g : ℕ → ℕ) (cost : ℤ) (m i : ℕ) → ((k : ℕ) → k < m + i → f k ≡ g k) → lowest f cost m i ≡ lowest g cost m i
 unfolding lowest
 lowest-same f g cost zero i h = refl
 lowest-same f g cost (suc m) i h = rw (h i (omega arith), lowest-same f g cost m (suc i) (λ k l. h k (omega arith)))
@@ -59,17 +60,13 @@ module _ (s js : List ℕ) (o : Offered s js) where
         tally-total 0 (columnsIn s) js (λ j. on (covers (fileMatrix s) i j) 1) (o .rises),
       ))
 
-  cost-is : tally (λ j. getD (parse s .costs) j 0) js ≡ price (fileMatrix s) (parse s .costs) (named js)
-  unfolding price
-  cost-is = rw (file-width s) (tally-total 0 (columnsIn s) js (λ j. getD (parse s .costs) j 0) (o .rises))
-
-  pub verdict-is : (cost : ℕ) (covered : List ℕ) (rows : ℕ) → covered ≡ countedAll (fileMatrix s) js noneCovered →
-      cost ≡ tally (λ j. getD (parse s .costs) j 0) js → rows ≡ rowsIn s →
+  pub verdict-is : (cost : ℤ) (covered : List ℕ) (rows : ℕ) → covered ≡ countedAll (fileMatrix s) js noneCovered →
+      cost ≡ offeredPrice s js → rows ≡ rowsIn s →
       lowest (λ i. getD covered i 0) cost rows 0 ≡ verdict (fileMatrix s) (parse s .costs) (named js)
   unfolding verdict instance parse
   verdict-is cost covered rows e f r =
-      rw (e, f, r, cost-is)
-      (lowest-same (λ i. getD (countedAll (fileMatrix s) js noneCovered) i 0) (λ i. count (fileMatrix s) i (named js)) (price (fileMatrix s) (parse s .costs) (named js)) (rowsIn s) 0 (λ i l. covered-is i))
+      rw (e, f, r)
+      (lowest-same (λ i. getD (countedAll (fileMatrix s) js noneCovered) i 0) (λ i. count (fileMatrix s) i (named js)) (offeredPrice s js) (rowsIn s) 0 (λ i l. covered-is i))
 
 -- the ways out of checking
 module _ (s js : List ℕ) where

@@ -1,24 +1,37 @@
 -- The walk over the offered columns of an accepted file: the counts and the cost of those that are left give what all of them give.
 use mathlib.Core.Path.{_≡_, refl, _∙_}
 use mathlib.Core.Bool.{true}
-use mathlib.Core.List.{List}
-use Prim.Native.Nat.{ℕ, zero, suc, _+_, _*_, _-_, _≤_, _<_}
+use mathlib.Core.List.{List, _∷_}
+use Prim.Native.Nat.{ℕ, zero, suc, _+_, _*_, _-_, _%_, _≤_, _<_}
 use native.Mathlib.Omega.{arith}
+use lib.IntN.{ℤ, _+ℤ_}
 use lib.ListN.{length, getD, take, drop, replicate, drop-of-length-le}
+use mir.Syntax.{w32}
+use mir.Val.{Fits}
+use mir.Facts.{toZ-ofZ, ofZ-toZ, fits-ofZ, sfits-toZ}
 use Rattle.node.proofs.Loops.{drop-step}
-use Rattle.node.specs.Matrix.{Matrix, body}
+use Rattle.node.specs.Lists.{member}
+use Rattle.node.specs.Matrix.{Matrix, body, signedPrice, named}
+use Rattle.signed.specs.Signed.{signed, bits}
+use Rattle.signed.proofs.Exact.{bits-sum}
 use Rattle.refusals.specs.Refusals.{fine}
 use Rattle.dutyfile.specs.declared.Entry.{Entry}
-use Rattle.dutyfile.specs.File.{columnsIn, bodiesAt, entryOf, parse, instance}
+use Rattle.dutyfile.specs.File.{columnsIn, bodiesAt, entryOf, costOf, parse, instance}
 use Rattle.dutyfile.specs.Faults.{rising, fileFault}
 use Rattle.dutyfile.proofs.Facts.{Accepted, file-fine}
-use Rattle.dutyfile.proofs.Columns.{ColumnAt, column-at, body-rises, part-is}
-use Rattle.dutyfile.proofs.Rising.{rising-at, rising-short}
-use Rattle.verify.specs.Counts.{noneCovered, counted, countedAll, tally}
+use Rattle.dutyfile.proofs.Columns.{ColumnAt, column-at, file-width, body-rises, part-is}
+use Rattle.dutyfile.proofs.Rising.{rising-cons, rising-at, rising-short}
+use Rattle.verify.specs.Counts.{noneCovered, counted, countedAll}
+use Rattle.verify.proofs.Totals.{signed-price-none, signed-price-joins, file-price-fits}
+use Rattle.verify.proofs.Sums.{named-joins}
 use Rattle.verify.proofs.Counting.{length-counted, counted-le}
 
 abbrev pub fileMatrix : List ℕ → Matrix
 fileMatrix s = instance (parse s) .matrix
+
+-- what the columns of a list cost
+abbrev pub offeredPrice : List ℕ → List ℕ → ℤ
+offeredPrice s js = signedPrice (fileMatrix s) (parse s .costs) (named js)
 
 -- an accepted file and a list of its columns
 pub record Offered (s js : List ℕ) : Type 0 where
@@ -96,29 +109,55 @@ module _ (s js : List ℕ) where
     unfolding countedAll
     covering-end h = rw (drop-of-length-le js h) at (w .left)
 
--- at place k, with the costs of the columns before it summed
+-- at place k, with the bits of the costs of the columns before it summed, at 32 bits
 pub record Costing (s js : List ℕ) (cost k : ℕ) : Type 0 where
   pub offer : Offered s js
   pub within : k ≤ length js
-  pub small : cost ≤ 1000000 * k
-  pub left : cost + tally (λ j. getD (parse s .costs) j 0) (drop k js) ≡ tally (λ j. getD (parse s .costs) j 0) js
+  pub fits : cost < 4294967296
+  pub low : ℕ
+  pub rises : rising low (columnsIn s) (drop k js) ≡ true
+  pub left : (cost + bits (offeredPrice s (drop k js))) % 4294967296 ≡ bits (offeredPrice s js)
 
 module _ (s js : List ℕ) where
   pub costing-start : Offered s js → Costing s js 0 0
-  costing-start o = record { offer = o; within = omega arith; small = omega arith; left = omega arith }
+  costing-start o =
+      let f : Fits w32 (bits (offeredPrice s js)) = fits-ofZ {w = w32} (file-price-fits s (o .file) (named js)) in
+      record { offer = o; within = omega arith; fits = omega arith; low = 0; rises = o .rises; left = omega (arith, f .fits) }
 
   module _ (cost k : ℕ) (w : Costing s js cost k) where
-    pub costing-next : (inside : k < length js) (e : Entry) → e ≡ entryOf (drop (bodiesAt (getD js k 0 - 1)) s) → Costing s js (cost + e .cost) (k + 1)
-    unfolding tally
-    costing-next inside e is =
-        let c = column-here s js (w .offer) k inside e is in
-        record {
-          offer = w .offer;
-          within = omega arith;
-          small = omega (arith, w .small, c .cheap .most);
-          left = omega (arith, c .cost, rw (drop-step js k inside) at (w .left));
-        }
+    module _ (inside : k < length js) (e : Entry) (is : e ≡ entryOf (drop (bodiesAt (getD js k 0 - 1)) s)) where
+      rises-here : rising (w .low) (columnsIn s) (getD js k 0 ∷ drop (k + 1) js) ≡ true
+      rises-here = rw (drop-step js k inside) at (w .rises)
 
-    pub costing-end : length js ≤ k → cost ≡ tally (λ j. getD (parse s .costs) j 0) js
-    unfolding tally
-    costing-end h = omega (arith, rw (drop-of-length-le js h) at (w .left))
+      -- what the columns from here on cost, by this one's cost
+      price-here : offeredPrice s (drop k js) ≡ offeredPrice s (drop (k + 1) js) +ℤ costOf e
+      price-here =
+          let o = w .offer in
+          let j : ℕ = getD js k 0 - 1 in
+          rw (drop-step js k inside)
+          (signed-price-joins (fileMatrix s) (parse s .costs) _ _ j (named-joins (w .low) (columnsIn s) (getD js k 0) (drop (k + 1) js) rises-here)
+          (omega (arith, file-width s, number-low s js o k inside, number-high s js o k inside))
+          ∙ rw (column-here s js o k inside e is .cost))
+
+      pub costing-next : (sum : ℕ) → Fits w32 (e .cost) → sum ≡ (cost + e .cost) % 4294967296 → Costing s js sum (k + 1)
+      costing-next sum f q =
+          let fits = file-price-fits s (w .offer .file) in
+          let b : (bits (offeredPrice s (drop (k + 1) js)) + e .cost) % 4294967296 ≡ bits (offeredPrice s (drop k js)) =
+          rw (ofZ-toZ f, ← price-here) at
+          (bits-sum (offeredPrice s (drop (k + 1) js)) (costOf e) (fits _) (sfits-toZ f) (rw (← price-here) (fits _))) in
+          record {
+            offer = w .offer;
+            within = omega arith;
+            fits = omega arith;
+            low = getD js k 0;
+            rises = rising-cons (w .low) (columnsIn s) (getD js k 0) (drop (k + 1) js) rises-here .2;
+            left = omega (arith, w .left);
+          }
+
+    pub costing-end : length js ≤ k → signed cost ≡ offeredPrice s js
+    unfolding member
+    costing-end h =
+        let z : (cost + 0) % 4294967296 ≡ bits (offeredPrice s js) =
+        rw (drop-of-length-le js h, signed-price-none (fileMatrix s) (parse s .costs)) at (w .left) in
+        let b : cost ≡ bits (offeredPrice s js) = omega (arith, w .fits) in
+        rw b (toZ-ofZ (file-price-fits s (w .offer .file) (named js)))

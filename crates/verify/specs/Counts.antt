@@ -17,8 +17,3 @@ counted (r ∷ rs) c = counted rs (set c (r - 1) (getD c (r - 1) 0 + 1))
 unfoldable pub countedAll : Matrix → List ℕ → List ℕ → List ℕ
 countedAll p [] c = c
 countedAll p (j ∷ js) c = countedAll p js (counted (body p (j - 1)) c)
-
--- a value of the columns, summed over a list of them, numbered from 1
-unfoldable pub tally : (ℕ → ℕ) → List ℕ → ℕ
-tally f [] = 0
-tally f (j ∷ js) = f (j - 1) + tally f js

@@ -6,15 +6,16 @@ ghost use mathlib.Core.Bool.{true};
 ghost use Prim.Native.Nat.{ℕ, _+_, _≤_, _<_};
 ghost use lib.ListN.{length, getD};
 ghost use Rattle.refusals.specs.Refusals.{fine, accepted};
+ghost use Rattle.node.specs.Matrix.{signedPrice, named};
 ghost use Rattle.dutyfile.specs.File.{columnsIn, parse, instance};
 ghost use Rattle.dutyfile.specs.Faults.{rising, fileFault};
-ghost use Rattle.verify.specs.Counts.{noneCovered, counted, countedAll, tally};
+ghost use Rattle.verify.specs.Counts.{noneCovered, counted, countedAll};
 ghost use Rattle.verify.specs.Verdict.{lowest, checking, checkOutcome};
 
 // What checking an offered plan comes to.
 pub enum CheckAnswer {
     // The plan's cost, 01's price.
-    Plan(u32),
+    Plan(i32),
     // The lowest row not covered exactly once, and how often it is covered.
     NotOnce(usize, u32),
     Refused(Refusal),
@@ -60,23 +61,23 @@ fn cover_counts(file: &[u8], columns: &[u16]) -> [u32; 64]
 }
 
 // What the offered columns cost.
-fn total_cost(file: &[u8], columns: &[u16]) -> u32
+fn total_cost(file: &[u8], columns: &[u16]) -> i32
     requires { ⌜ fileFault (now file) ≡ fine ⌝ }
     requires { ⌜ rising 0 (columnsIn (now file)) (now columns) ≡ true ⌝ }
-    ensures { λ r. ⌜ r ≡ tally (λ j. getD (parse (now (file .entry)) .costs) j 0) (now (columns .entry)) ⌝ }
+    ensures { λ r. ⌜ r ≡ signedPrice (instance (parse (now (file .entry))) .matrix) (parse (now (file .entry)) .costs) (named (now (columns .entry))) ⌝ }
 {
     let mut cost = 0;
     let mut k = 0;
     while k < columns.len() {
         let e = dutyfile::entry_at(file, columns[k] as usize - 1);
-        cost += e.cost;
+        cost = std::num::wrapping_add_u32(cost, e.cost);
         k += 1;
     }
-    cost
+    signed::from_bits(cost)
 }
 
 // The lowest of the rows that is not covered exactly once; else a plan at this cost.
-fn judge(covered: &[u32; 64], rows: usize, cost: u32) -> CheckAnswer
+fn judge(covered: &[u32; 64], rows: usize, cost: i32) -> CheckAnswer
     requires { ⌜ rows ≤ 64 ⌝ }
     ensures { λ r. ⌜ checkOutcome r ≡ accepted (lowest (λ i. getD (now (covered .entry)) i 0) cost rows 0) ⌝ }
 {

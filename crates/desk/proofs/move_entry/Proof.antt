@@ -1,8 +1,8 @@
--- The part of the file that the entry names is the body of its column, and its cost fits.
+-- The part of the file that the entry names is the body of its column, and the number that the entry's 32 bits stand for is its cost.
 use mathlib.Core.Path.{_∙_}
 use native.Mathlib.Omega.{arith}
-use mir.Facts.{toZ-ofZ}
-use Rattle.desk.proofs.Ways.{passed, found-column, found-fits, found-ready, found-moved}
+use Rattle.signed.proofs.Signs.{given}
+use Rattle.desk.proofs.Ways.{passed, found-column, found-ready, found-moved}
 use borrow.Author.Needs.{needs}
 use Rattle.desk.proofs.move_entry.Statement.{statement}
 use Rattle.desk.proofs.move_entry.Tie as tie
@@ -16,10 +16,8 @@ cast-end c = search needs
 add-end : tie.Need-add-end
 add-end c = search needs
 
-cast-cost : tie.Need-cast-cost
-cast-cost c =
-    let s = c .before .before .before .before in
-    found-fits _ _ _ (s .pre)
+from-bits-requires : tie.Need-from-bits-requires
+from-bits-requires c κs = search needs
 
 sub-move-column : tie.Need-sub-move-column
 sub-move-column c = passed _ _ (c .before .before .before .before .pre .passes) .1
@@ -42,8 +40,8 @@ move-column-requires c κs =
 
 returns : tie.Need-returns
 returns c =
-    let s = c .before .before .before .before .before .before .before .before .before .before in
-    (rw (toZ-ofZ (found-fits _ _ _ (s .pre))) at (c .move-column .ensures)) ∙ found-moved _ _ _ (s .pre) _ _
+    let b = c .before .before .before .before .before .before in
+    (rw (given _ (b .from-bits .ok), b .from-bits .ensures) at (c .move-column .ensures)) ∙ found-moved _ _ _ (b .before .before .before .before .pre) _ _
 
 pub move-entry-spec : {M : Type 1} → statement M
 move-entry-spec =
@@ -52,7 +50,7 @@ move-entry-spec =
     cast-start
     cast-end
     add-end
-    cast-cost
+    from-bits-requires
     sub-move-column
     sub-move-column-2
     part-move-column-start

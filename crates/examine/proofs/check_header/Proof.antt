@@ -5,12 +5,13 @@ use Rattle.refusals.specs.Refusals.{faultOf}
 use Rattle.refusals.proofs.Laws.{passed, failed}
 use Rattle.dutyfile.proofs.Facts.{counts-fine}
 use mathlib.Core.Path.{_≡_, sym, _∙_}
-use mathlib.Core.Bool.{true}
+use mathlib.Core.Bool.{true, _||_}
 use mathlib.Core.List.{List}
 use Prim.Native.Nat.{ℕ, _≤_}
 use lib.ListN.{length, take}
 use Rattle.endian.specs.Bytes.{same}
 use Rattle.refusals.specs.declared.Check.the-variants.{Passed}
+use Rattle.dutyfile.specs.declared.Edition.the-variants.{Spp1, Spp2}
 use Rattle.dutyfile.specs.File.{magic, rowsIn, columnsIn}
 use Rattle.dutyfile.specs.Faults.{countsFault}
 use Rattle.examine.proofs.Header.{header-short, header-other, header-counts, header-cut, header-whole}
@@ -24,13 +25,13 @@ returns c = header-short _ (c .if1 .taken)
 
 -- what is known once the counts are tested
 abbrev file : tie.After-check-counts → List ℕ
-file c = c .before .before .before .before .before .before .before .before .before .args .file .now
+file c = c .before .before .before .before .before .before .before .args .file .now
 
 long : (c : tie.After-check-counts) → 8 ≤ length (file c)
-long c = c .before .before .before .before .before .before .before .if1 .left
+long c = c .before .before .before .before .before .if1 .left
 
-marked : (c : tie.After-check-counts) → same (take 4 (file c)) magic ≡ true
-marked c = sym (c .before .before .before .before .equal .ensures) ∙ not-false _ (c .before .before .before .if2 .left)
+marked : (c : tie.After-check-counts) → (same (take 4 (file c)) (magic Spp1) || same (take 4 (file c)) (magic Spp2)) ≡ true
+marked c = sym (c .before .before .before .before .is-marked .ensures) ∙ not-false _ (c .before .before .before .if2 .left)
 
 counts : (c : tie.After-check-counts) → faultOf (c .check-counts .result) ≡ countsFault (rowsIn (file c)) (columnsIn (file c))
 counts c = rw (c .before .row-count .ensures, c .before .before .column-count .ensures) at (c .check-counts .ensures)
@@ -38,25 +39,13 @@ counts c = rw (c .before .row-count .ensures, c .before .before .column-count .e
 few : (c : tie.After-check-counts) → c .check-counts .result ≡ Passed → c .before .before .column-count .result ≤ 256
 few c e = omega (arith, counts-fine _ _ (passed (counts c) e) .columns .most, c .before .before .column-count .ensures)
 
-sub-equal : tie.Need-sub-equal
-sub-equal c = search needs
-
-part-equal-start : tie.Need-part-equal-start
-part-equal-start c = search needs
-
-part-equal-end : tie.Need-part-equal-end
-part-equal-end c = search needs
-
-slice-aggregate-equal : tie.Need-slice-aggregate-equal
-slice-aggregate-equal c = search needs
-
-equal-requires : tie.Need-equal-requires
-equal-requires c κs = search needs
+is-marked-requires : tie.Need-is-marked-requires
+is-marked-requires c κs = search needs
 
 returns-2 : tie.Need-returns-2
 unfolding faultOf
 returns-2 c =
-    header-other _ (c .before .before .before .before .if1 .left) (sym (c .before .equal .ensures) ∙ not-true _ (c .if2 .taken))
+    header-other _ (c .before .before .if1 .left) (sym (c .before .is-marked .ensures) ∙ not-true _ (c .if2 .taken))
 
 column-count-requires : tie.Need-column-count-requires
 column-count-requires c κs = search needs
@@ -102,11 +91,7 @@ check-header-spec =
     tie.close
     (tie.spec
     returns
-    sub-equal
-    part-equal-start
-    part-equal-end
-    slice-aggregate-equal
-    equal-requires
+    is-marked-requires
     returns-2
     column-count-requires
     row-count-requires

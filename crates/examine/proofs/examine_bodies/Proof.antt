@@ -46,6 +46,9 @@ enum-known-tested c = search needs
 enum-told : tie.Need-enum-told
 enum-told c = search needs
 
+edition-in-requires : tie.Need-edition-in-requires
+edition-in-requires c κs = search needs
+
 row-count-requires : tie.Need-row-count-requires
 row-count-requires c κs = search needs
 
@@ -59,10 +62,10 @@ returns-2 c =
 returns-3 : tie.Need-returns-3
 unfolding readOutcome shape
 returns-3 c =
-    let b = c .before .before .before in
+    let b = c .before .before .before .before in
     let p = b .before .before .before .before .pre in
-    rw (c .row-count .ensures, b .before .before .column-count .ensures, p .1 .1)
-    (all-passes _ (p .0) (p .1 .0) (end (b .before)) (passed (b .check-bodies .ensures) (c .before .enum-told .given .1)))
+    rw (c .before .edition-in .ensures, c .row-count .ensures, b .before .before .column-count .ensures, p .1 .1)
+    (all-passes _ (p .0) (p .1 .0) (end (b .before)) (passed (b .check-bodies .ensures) (c .before .before .enum-told .given .1)))
 
 pub examine-bodies-spec : {M : Type 1} → statement M
 examine-bodies-spec =
@@ -76,6 +79,7 @@ examine-bodies-spec =
     check-bodies-requires
     enum-known-tested
     enum-told
+    edition-in-requires
     row-count-requires
     returns-2
     returns-3)

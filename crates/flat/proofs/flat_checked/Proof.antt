@@ -1,6 +1,9 @@
 -- By the arms of the match: a refusal gives its number, a plan its price, and else a row, which fits, and its count.
 use mathlib.Core.Path.{ap}
 use native.Mathlib.Omega.{arith}
+use mir.Syntax.{w32, w64}
+use mir.Val.{SFits}
+use mir.Facts.{toZ-ofZ}
 use Rattle.verify.specs.Verdict.{checkOutcome}
 use Rattle.flat.specs.Flat.{checkedOf}
 use borrow.Author.Needs.{needs}
@@ -19,8 +22,8 @@ checked-requires c κs = search needs
 enum-known-answer-2 : tie.Need-enum-known-answer-2
 enum-known-answer-2 c = search needs
 
-cast-checked : tie.Need-cast-checked
-cast-checked c = search needs
+wide-requires : tie.Need-wide-requires
+wide-requires c κs = search needs
 
 checked-requires-2 : tie.Need-checked-requires-2
 checked-requires-2 c κs = search needs
@@ -28,9 +31,9 @@ checked-requires-2 c κs = search needs
 enum-known-answer-3 : tie.Need-enum-known-answer-3
 enum-known-answer-3 c = search needs
 
-cast-checked-2 : tie.Need-cast-checked-2
+cast-checked : tie.Need-cast-checked
 unfolding checkOutcome
-cast-checked-2 c = omega (arith, c .before .before .before .pre _ _ (ap checkOutcome (c .before .answer3 .given .1)))
+cast-checked c = omega (arith, c .before .before .before .pre _ _ (ap checkOutcome (c .before .answer3 .given .1)))
 
 checked-requires-3 : tie.Need-checked-requires-3
 checked-requires-3 c κs = search needs
@@ -41,7 +44,12 @@ returns c = rw (c .checked .ensures, c .before .number .ensures, c .before .befo
 
 returns-2 : tie.Need-returns-2
 unfolding checkedOf checkOutcome
-returns-2 c = rw (c .checked2 .ensures, c .before .before .answer2 .given .1)
+returns-2 c =
+    let a = c .before .before .before .answer2 in
+    let w = c .before .wide in
+    let f : SFits w32 (a .given .0 .0) = search needs in
+    let g : SFits w64 (w .result) = search needs in
+    rw (c .checked2 .ensures, a .given .1, toZ-ofZ g, w .ensures, toZ-ofZ f)
 
 returns-3 : tie.Need-returns-3
 unfolding checkedOf checkOutcome
@@ -55,10 +63,10 @@ flat-checked-spec =
     number-requires
     checked-requires
     enum-known-answer-2
-    cast-checked
+    wide-requires
     checked-requires-2
     enum-known-answer-3
-    cast-checked-2
+    cast-checked
     checked-requires-3
     returns
     returns-2

@@ -1,6 +1,9 @@
 -- By the arms of the match: a refusal gives its number, and a file reduced its bound and the number of rows used, which fits.
 use mathlib.Core.Path.{ap}
 use native.Mathlib.Omega.{arith}
+use mir.Syntax.{w64}
+use mir.Val.{SFits}
+use mir.Facts.{toZ-ofZ}
 use Rattle.reduce.specs.Answer.{reduceOutcome}
 use Rattle.flat.specs.Flat.{reducedOf}
 use borrow.Author.Needs.{needs}
@@ -23,9 +26,6 @@ cast-reduced : tie.Need-cast-reduced
 unfolding reduceOutcome
 cast-reduced c = omega (arith, c .before .before .before .before .pre _ (ap reduceOutcome (c .before .before .answer2 .given .1)))
 
-cast-reduced-2 : tie.Need-cast-reduced-2
-cast-reduced-2 c = search needs
-
 reduced-requires-2 : tie.Need-reduced-requires-2
 reduced-requires-2 c κs = search needs
 
@@ -35,7 +35,10 @@ returns c = rw (c .reduced .ensures, c .before .number .ensures, c .before .befo
 
 returns-2 : tie.Need-returns-2
 unfolding reducedOf reduceOutcome
-returns-2 c = rw (c .reduced2 .ensures, c .before .before .before .before .answer2 .given .1)
+returns-2 c =
+    let a = c .before .before .before .before .answer2 in
+    let f : SFits w64 (a .given .0 .0 .bound) = search needs in
+    rw (c .reduced2 .ensures, a .given .1, toZ-ofZ f)
 
 pub flat-reduced-spec : {M : Type 1} → statement M
 flat-reduced-spec =
@@ -46,7 +49,6 @@ flat-reduced-spec =
     reduced-requires
     enum-known-answer-2
     cast-reduced
-    cast-reduced-2
     reduced-requires-2
     returns
     returns-2)

@@ -34,6 +34,9 @@ cast-shape-2 c = omega (arith, low (c .before .before .before))
 cast-shape-3 : tie.Need-cast-shape-3
 cast-shape-3 c = omega (arith, low (c .before .before .before .before))
 
+edition-number-requires : tie.Need-edition-number-requires
+edition-number-requires c κs = search needs
+
 shape-requires-2 : tie.Need-shape-requires-2
 shape-requires-2 c κs = search needs
 
@@ -43,7 +46,7 @@ returns c = rw (c .shape .ensures, c .before .number .ensures, c .before .before
 
 returns-2 : tie.Need-returns-2
 unfolding shapeOf readOutcome
-returns-2 c = rw (c .shape2 .ensures, c .before .before .before .before .before .answer2 .given .1)
+returns-2 c = rw (c .shape2 .ensures, c .before .edition-number .ensures, c .before .before .before .before .before .before .answer2 .given .1)
 
 pub flat-shape-spec : {M : Type 1} → statement M
 flat-shape-spec =
@@ -56,6 +59,7 @@ flat-shape-spec =
     cast-shape
     cast-shape-2
     cast-shape-3
+    edition-number-requires
     shape-requires-2
     returns
     returns-2)

@@ -18,9 +18,9 @@ same-length-3 c = search needs
 
 returns : tie.Need-returns
 returns c =
-    let k = c .before .before .before .before .before .before in
+    let k = c .before .before .before .before .before in
     let e = k .read .ensures in
-    let h = k .before .before .before .before .before .before .before .before .pre in
+    let h = k .before .before .before .before .before .before .before .pre in
     (file-alone _ _ _ _ _ h (e .0), e .1)
 
 pub read-lists-spec : {M : Type 1} → statement M

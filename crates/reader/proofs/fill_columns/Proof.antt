@@ -1,6 +1,9 @@
 -- The places that are left in both lists, filled from the entries that are left, give what all of them give.
+use mathlib.Core.Path.{refl, _∙_}
 use Prim.Native.Nat.{_-_}
 use native.Mathlib.Omega.{arith}
+use borrow.Author.Needs.{needs}
+use Rattle.signed.proofs.Signs.{given}
 use Rattle.dutyfile.specs.File.{costOf, sizeOf, parse}
 use Rattle.dutyfile.proofs.Facts.{header-fine}
 use Rattle.contents.proofs.Table.{table-at}
@@ -16,14 +19,14 @@ abbrev μ-loop : tie.MeasureT-loop
 μ-loop file costs₀ lengths₀ columns table k₀ costs lengths k = columns - k
 
 column-count-requires : tie.Need-column-count-requires Inv-loop μ-loop
-column-count-requires c κs = header-fine _ (c .before .before .before .pre .0) .long
+column-count-requires c κs = header-fine _ (c .before .before .pre .0) .long
 
 entries-requires : tie.Need-entries-requires Inv-loop μ-loop
-entries-requires c κs = (c .before .before .before .before .pre .0, c .column-count .ensures)
+entries-requires c κs = (c .before .before .before .pre .0, c .column-count .ensures)
 
 loop-holds : tie.Need-loop-holds Inv-loop μ-loop
 loop-holds c =
-    let p = c .before .before .before .before .before .pre in
+    let p = c .before .before .before .before .pre in
     let n = c .before .column-count .ensures in
     (filling-start costOf _ _ _ (p .0) (p .1 .0) n, filling-start sizeOf _ _ _ (p .0) (p .1 .1) n)
 
@@ -35,11 +38,14 @@ array-copy-out-e c =
 mul-e : tie.Need-mul-e Inv-loop μ-loop
 mul-e c = omega (arith, array-copy-out-e c)
 
-mul-costs : tie.Need-mul-costs Inv-loop μ-loop
-mul-costs c = omega arith
+from-bits-requires : tie.Need-from-bits-requires Inv-loop μ-loop
+from-bits-requires c κs = search needs
 
-slice-write-costs : tie.Need-slice-write-costs Inv-loop μ-loop
-slice-write-costs c = omega arith
+mul-cost : tie.Need-mul-cost Inv-loop μ-loop
+mul-cost c = omega arith
+
+slice-set-from-cost : tie.Need-slice-set-from-cost Inv-loop μ-loop
+slice-set-from-cost c = omega arith
 
 mul-lengths : tie.Need-mul-lengths Inv-loop μ-loop
 mul-lengths c = omega arith
@@ -55,10 +61,12 @@ loop-less c = omega arith
 
 loop-again : tie.Need-loop-again Inv-loop μ-loop
 loop-again c =
-    let l = c .before in
+    let l = c .before .before in
     let w = l .before .loop .inv in
-    let is = table-at _ _ _ (w .0 .columns-is) (l .before .before .entries .ensures) _ _ (l .loop-test .taken) in
-    (filling-next costOf _ _ _ _ _ (w .0) (l .loop-test .taken) _ is, filling-next sizeOf _ _ _ _ _ (w .1) (l .loop-test .taken) _ is)
+    let is = table-at _ _ _ (w .0 .columns-is) (l .before .before .entries .ensures) _ _ (l .loop-test .taken) in (
+      filling-next costOf _ _ _ _ _ (w .0) (l .loop-test .taken) _ is _ (given _ (c .from-bits .ok) ∙ c .from-bits .ensures),
+      filling-next sizeOf _ _ _ _ _ (w .1) (l .loop-test .taken) _ is _ refl,
+    )
 
 same-length : tie.Need-same-length Inv-loop μ-loop
 same-length c = omega arith
@@ -83,8 +91,9 @@ fill-columns-spec =
     loop-holds
     mul-e
     array-copy-out-e
-    mul-costs
-    slice-write-costs
+    from-bits-requires
+    mul-cost
+    slice-set-from-cost
     mul-lengths
     slice-write-lengths
     add-k

@@ -25,7 +25,7 @@ check-rooms-requires c κs = search needs
 
 -- the file is accepted
 found : (c : tie.After-check-rooms) →
-    let s = c .before .before .before .before .before .before .before .before .before .args .file .now in
+    let s = c .before .before .before .before .before .before .before .before .args .file .now in
     accepted (c .before .before .found .given .0 .0) ≡ unless (fileFault s) (shape s)
 unfolding readOutcome
 found c = rw (c .before .before .found .given .1) at (c .before .before .before .before .examine .ensures)
@@ -38,7 +38,7 @@ enum-told-2 c = search needs
 
 -- and the lists have room
 space : (c : tie.After-enum-told2) →
-    let a = c .before .before .before .before .before .before .before .before .before .before .before .args in
+    let a = c .before .before .before .before .before .before .before .before .before .before .args in
     Roomy (a .file .now) (length (a .costs .now)) (length (a .lengths .now)) (length (a .rows .now))
 space c =
     let k = c .before .before in
@@ -51,7 +51,7 @@ fill-columns-requires c κs =
 
 fill-rows-requires : tie.Need-fill-rows-requires
 fill-rows-requires c κs =
-    let r = space (c .before .before .before .before .before .before .before .before) in
+    let r = space (c .before .before .before .before .before .before .before) in
     (r .header, r .rows)
 
 returns : tie.Need-returns
@@ -79,7 +79,7 @@ same-length-3 c = search needs
 returns-3 : tie.Need-returns-3
 unfolding readOutcome filled
 returns-3 c =
-    let f = c .before .before .before .before .before .before .before .before in
+    let f = c .before .before .before .before .before .before .before in
     let p = f .before .before .before in
     let k = p .before .before in
     let e = f .fill-columns .ensures in

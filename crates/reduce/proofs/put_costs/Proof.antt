@@ -2,7 +2,7 @@
 use Prim.Native.Nat.{_-_}
 use lib.ListN.{length}
 use native.Mathlib.Omega.{arith}
-use Rattle.reduce.proofs.Filled.{Copying, copying-start, copying-next, copying-end}
+use Rattle.reduce.proofs.Filled.{Copying, copying-start, copying-fits, copying-place, copying-next, copying-end}
 use Rattle.reduce.proofs.put_costs.Statement.{statement}
 use Rattle.reduce.proofs.put_costs.Tie as tie
 
@@ -21,11 +21,14 @@ mul-dst c = omega arith
 shared-slice-read-dst : tie.Need-shared-slice-read-dst Inv-loop μ-loop
 shared-slice-read-dst c = omega arith
 
-mul-dst-2 : tie.Need-mul-dst-2 Inv-loop μ-loop
-mul-dst-2 c = omega arith
+cast-dst : tie.Need-cast-dst Inv-loop μ-loop
+cast-dst c = copying-fits _ _ _ _ (c .before .before .loop .inv) (c .before .loop-test .taken)
 
-slice-write-dst : tie.Need-slice-write-dst Inv-loop μ-loop
-slice-write-dst c = omega arith
+mul-t9 : tie.Need-mul-t9 Inv-loop μ-loop
+mul-t9 c = omega arith
+
+slice-set-from-dst : tie.Need-slice-set-from-dst Inv-loop μ-loop
+slice-set-from-dst c = copying-place _ _ _ _ (c .before .before .loop .inv) (c .before .loop-test .taken)
 
 add-j : tie.Need-add-j Inv-loop μ-loop
 add-j c = omega arith
@@ -51,8 +54,9 @@ put-costs-spec =
     loop-holds
     mul-dst
     shared-slice-read-dst
-    mul-dst-2
-    slice-write-dst
+    cast-dst
+    mul-t9
+    slice-set-from-dst
     add-j
     loop-less
     loop-again

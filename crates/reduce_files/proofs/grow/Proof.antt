@@ -14,99 +14,75 @@ Inv-loop rows stride costs₀ lengths₀ numbers₀ first₀ end₀ j₀ costs l
 abbrev μ-loop : tie.MeasureT-loop
 μ-loop rows stride costs₀ lengths₀ numbers₀ first₀ end₀ j₀ costs lengths numbers first end j = length costs₀ - j
 
--- src/main.rt:142:5
 loop-holds : tie.Need-loop-holds Inv-loop μ-loop
 loop-holds c = omega arith
 
--- src/main.rt:143:56
 add-put-body : tie.Need-add-put-body Inv-loop μ-loop
 add-put-body c = omega arith
 
--- src/main.rt:143:67
 add-put-body-2 : tie.Need-add-put-body-2 Inv-loop μ-loop
 add-put-body-2 c = omega arith
 
--- src/main.rt:143:13
 put-body-requires : tie.Need-put-body-requires Inv-loop μ-loop
 put-body-requires c κs = omega arith
 
--- src/main.rt:144:27
 mul-costs : tie.Need-mul-costs Inv-loop μ-loop
 mul-costs c = omega arith
 
--- src/main.rt:144:21
 add-costs : tie.Need-add-costs Inv-loop μ-loop
 add-costs c = omega arith
 
--- src/main.rt:144:20
 cast-costs : tie.Need-cast-costs Inv-loop μ-loop
 cast-costs c = omega arith
 
--- src/main.rt:144:9
-mul-costs-2 : tie.Need-mul-costs-2 Inv-loop μ-loop
-mul-costs-2 c = omega arith
+mul-t14 : tie.Need-mul-t14 Inv-loop μ-loop
+mul-t14 c = omega arith
 
--- src/main.rt:144:9
-slice-write-costs : tie.Need-slice-write-costs Inv-loop μ-loop
-slice-write-costs c = omega arith
+slice-set-from-costs : tie.Need-slice-set-from-costs Inv-loop μ-loop
+slice-set-from-costs c = omega arith
 
--- src/main.rt:145:23
 sub-lengths : tie.Need-sub-lengths Inv-loop μ-loop
 sub-lengths c = omega arith
 
--- src/main.rt:145:22
 cast-lengths : tie.Need-cast-lengths Inv-loop μ-loop
 cast-lengths c = omega arith
 
--- src/main.rt:145:9
 mul-lengths : tie.Need-mul-lengths Inv-loop μ-loop
 mul-lengths c = omega arith
 
--- src/main.rt:145:9
 slice-write-lengths : tie.Need-slice-write-lengths Inv-loop μ-loop
 slice-write-lengths c = omega arith
 
--- src/main.rt:147:9
 add-j : tie.Need-add-j Inv-loop μ-loop
 add-j c = omega arith
 
--- src/main.rt:148:9
 add-first : tie.Need-add-first Inv-loop μ-loop
 add-first c = omega arith
 
--- src/main.rt:150:13
 sub-first : tie.Need-sub-first Inv-loop μ-loop
 sub-first c = omega arith
 
--- src/main.rt:142:5
 loop-less : tie.Need-loop-less Inv-loop μ-loop
 loop-less c = omega arith
 
--- src/main.rt:142:5
 loop-again : tie.Need-loop-again Inv-loop μ-loop
 loop-again c = simp length-set (omega arith)
 
--- src/main.rt:142:5
 loop-less-2 : tie.Need-loop-less-2 Inv-loop μ-loop
 loop-less-2 c = omega arith
 
--- src/main.rt:142:5
 loop-again-2 : tie.Need-loop-again-2 Inv-loop μ-loop
 loop-again-2 c = simp length-set (omega arith)
 
--- src/main.rt:135:1
 same-length : tie.Need-same-length Inv-loop μ-loop
 same-length c = omega arith
 
--- src/main.rt:135:1
 same-length-2 : tie.Need-same-length-2 Inv-loop μ-loop
 same-length-2 c = omega arith
 
--- src/main.rt:135:1
 same-length-3 : tie.Need-same-length-3 Inv-loop μ-loop
 same-length-3 c = omega arith
 
--- src/main.rt:135:1
 returns : tie.Need-returns Inv-loop μ-loop
 returns c = omega arith
 
@@ -123,8 +99,8 @@ grow-spec =
     mul-costs
     add-costs
     cast-costs
-    mul-costs-2
-    slice-write-costs
+    mul-t14
+    slice-set-from-costs
     sub-lengths
     cast-lengths
     mul-lengths

@@ -12,35 +12,30 @@ Inv-loop costs j₀ j = j ≤ length costs
 abbrev μ-loop : tie.MeasureT-loop
 μ-loop costs j₀ j = length costs - j
 
--- src/main.rt:27:5
 loop-holds : tie.Need-loop-holds Inv-loop μ-loop
 loop-holds c = omega arith
 
--- src/main.rt:28:20
-mul-say-number : tie.Need-mul-say-number Inv-loop μ-loop
-mul-say-number c = omega arith
+mul-wide : tie.Need-mul-wide Inv-loop μ-loop
+mul-wide c = omega arith
 
--- src/main.rt:28:20
-shared-slice-read-say-number : tie.Need-shared-slice-read-say-number Inv-loop μ-loop
-shared-slice-read-say-number c = omega arith
+shared-slice-copy-out-wide : tie.Need-shared-slice-copy-out-wide Inv-loop μ-loop
+shared-slice-copy-out-wide c = omega arith
 
--- src/main.rt:28:9
-say-number-requires : tie.Need-say-number-requires Inv-loop μ-loop
-say-number-requires c κs = search needs
+wide-requires : tie.Need-wide-requires Inv-loop μ-loop
+wide-requires c κs = search needs
 
--- src/main.rt:29:9
+say-price-requires : tie.Need-say-price-requires Inv-loop μ-loop
+say-price-requires c κs = search needs
+
 add-j : tie.Need-add-j Inv-loop μ-loop
 add-j c = omega arith
 
--- src/main.rt:27:5
 loop-less : tie.Need-loop-less Inv-loop μ-loop
 loop-less c = omega arith
 
--- src/main.rt:27:5
 loop-again : tie.Need-loop-again Inv-loop μ-loop
 loop-again c = omega arith
 
--- src/main.rt:25:1
 returns : tie.Need-returns Inv-loop μ-loop
 returns c = omega arith
 
@@ -51,9 +46,10 @@ say-costs-spec =
     Inv-loop
     μ-loop
     loop-holds
-    mul-say-number
-    shared-slice-read-say-number
-    say-number-requires
+    mul-wide
+    shared-slice-copy-out-wide
+    wide-requires
+    say-price-requires
     add-j
     loop-less
     loop-again

@@ -2,6 +2,7 @@
 use Prim.Native.Nat.{_-_}
 use native.Mathlib.Omega.{arith}
 use lib.ListN.{length}
+use Rattle.signed.proofs.Signs.{given}
 use Rattle.render.proofs.Puts.{Putting, putting-start, putting-ends, putting-next, putting-end}
 use Rattle.render.proofs.put_contents.Statement.{statement}
 use Rattle.render.proofs.put_contents.Tie as tie
@@ -20,14 +21,14 @@ add-start c = omega arith
 
 loop-holds : tie.Need-loop-holds Inv-loop μ-loop
 loop-holds c =
-    let p = c .before .before .before .pre in
+    let p = c .before .before .pre in
     putting-start _ _ _ (p .0 .0) (p .0 .1) (p .1 .0) (p .1 .1)
 
 mul-put-entry : tie.Need-mul-put-entry Inv-loop μ-loop
 mul-put-entry c = omega arith
 
-shared-slice-read-put-entry : tie.Need-shared-slice-read-put-entry Inv-loop μ-loop
-shared-slice-read-put-entry c = omega arith
+shared-slice-copy-out-put-entry : tie.Need-shared-slice-copy-out-put-entry Inv-loop μ-loop
+shared-slice-copy-out-put-entry c = omega arith
 
 cast-put-entry : tie.Need-cast-put-entry Inv-loop μ-loop
 cast-put-entry c = omega (arith, putting-ends _ _ _ _ _ _ (c .before .before .before .loop .inv) (c .before .before .loop-test .taken))
@@ -35,8 +36,8 @@ cast-put-entry c = omega (arith, putting-ends _ _ _ _ _ _ (c .before .before .be
 mul-put-entry-2 : tie.Need-mul-put-entry-2 Inv-loop μ-loop
 mul-put-entry-2 c = omega arith
 
-shared-slice-read-put-entry-2 : tie.Need-shared-slice-read-put-entry-2 Inv-loop μ-loop
-shared-slice-read-put-entry-2 c = omega arith
+shared-slice-read-put-entry : tie.Need-shared-slice-read-put-entry Inv-loop μ-loop
+shared-slice-read-put-entry c = omega arith
 
 put-entry-requires : tie.Need-put-entry-requires Inv-loop μ-loop
 put-entry-requires c κs = omega arith
@@ -48,7 +49,7 @@ shared-slice-read-start : tie.Need-shared-slice-read-start Inv-loop μ-loop
 shared-slice-read-start c = omega arith
 
 cast-start : tie.Need-cast-start Inv-loop μ-loop
-cast-start c = omega (arith, c .shared-slice-known5 .given (c .before .before .before .before .before .before .before .before .loop .k))
+cast-start c = omega (arith, c .shared-slice-known3 .given (c .before .before .before .before .before .before .before .before .loop .k))
 
 add-start-2 : tie.Need-add-start-2 Inv-loop μ-loop
 add-start-2 c =
@@ -64,7 +65,8 @@ loop-less c = omega arith
 loop-again : tie.Need-loop-again Inv-loop μ-loop
 loop-again c =
     let l = c .before .before .before .before .before .before .before in
-    putting-next _ _ _ _ _ _ (l .before .loop .inv) (l .loop-test .taken) _ (c .before .before .before .put-entry .ensures)
+    let put = c .before .before .before in
+    putting-next _ _ _ _ _ _ (l .before .loop .inv) (l .loop-test .taken) _ (rw (given _ (put .before .before .put-entry-arg2 .given)) at (put .put-entry .ensures))
 
 same-length : tie.Need-same-length Inv-loop μ-loop
 same-length c = omega arith
@@ -82,10 +84,10 @@ put-contents-spec =
     add-start
     loop-holds
     mul-put-entry
-    shared-slice-read-put-entry
+    shared-slice-copy-out-put-entry
     cast-put-entry
     mul-put-entry-2
-    shared-slice-read-put-entry-2
+    shared-slice-read-put-entry
     put-entry-requires
     mul-start-2
     shared-slice-read-start

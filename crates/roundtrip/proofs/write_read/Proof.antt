@@ -14,13 +14,13 @@ use Rattle.roundtrip.proofs.write_read.Tie as tie
 
 -- the lists are accepted
 written : (c : tie.After-written2) →
-    let a = c .before .before .before .before .before .before .before .before .before .before .before .before .before .args in
-    accepted (c .written2 .given .0 .0) ≡ writing (lists (a .rows) (a .costs .now) (a .lengths .now) (a .numbers .now)) (length (a .file .now))
+    let a = c .before .before .before .before .before .before .before .before .before .before .before .args in
+    accepted (c .written2 .given .0 .0) ≡ writing (lists (a .edition) (a .rows) (a .costs .now) (a .lengths .now) (a .numbers .now)) (length (a .file .now))
 unfolding writeOutcome
-written c = rw (c .written2 .given .1) at (c .before .before .before .before .write .ensures .0)
+written c = rw (c .written2 .given .1) at (c .before .before .before .before .write-by .ensures .0)
 
-write-requires : tie.Need-write-requires
-write-requires c κs = search needs
+write-by-requires : tie.Need-write-by-requires
+write-by-requires c κs = search needs
 
 enum-known-written : tie.Need-enum-known-written
 enum-known-written c = search needs
@@ -46,7 +46,7 @@ same-length c = search needs
 returns : tie.Need-returns
 unfolding readOutcome writeOutcome filled
 returns c =
-    let e = c .before .before .before .before .before .write .ensures in
+    let e = c .before .before .before .before .before .write-by .ensures in
     (write-refused _ _ _ _ _ _ (rw (c .before .written .given .1) at (e .0)), (refl, (refl, (refl, rw (e .0) at (e .1)))))
 
 same-length-2 : tie.Need-same-length-2
@@ -63,9 +63,9 @@ same-length-5 c = search needs
 
 returns-2 : tie.Need-returns-2
 returns-2 c =
-    let r = c .before .before .before .before .before .before in
+    let r = c .before .before .before .before .before in
     let w = r .before .before .before .before .before .before .before in
-    let e = w .before .before .before .before .write .ensures in
+    let e = w .before .before .before .before .write-by .ensures in
     let file = rw (e .0) at (e .1) in
     let same = lists-read _ _ 0 0 0 _ (written w) _ _ file in
     let f = r .read .ensures in
@@ -75,7 +75,7 @@ pub write-read-spec : {M : Type 1} → statement M
 write-read-spec =
     tie.close
     (tie.spec
-    write-requires
+    write-by-requires
     enum-known-written
     enum-known-written-2
     sub-read

@@ -1,12 +1,13 @@
 -- A file is read, then the call's tests are made; only where all pass is the matrix searched and is a plan written.
-use mathlib.Core.Path.{refl, sym}
-use Rattle.refusals.specs.Refusals.{filled}
-use Rattle.refusals.proofs.Laws.{failed, passed}
+use mathlib.Core.Path.{_≡_, refl, sym}
+use Rattle.refusals.specs.Refusals.{fine, filled}
+use Rattle.refusals.proofs.Laws.{failed, passed, refused-none}
 use lib.ListN.{length}
 use Rattle.rules.specs.Requests.{asking}
 use Rattle.lists.specs.Loaded.{Loaded}
 use Rattle.answer.specs.Answer.{searchOutcome}
-use Rattle.search.proofs.Called.{refused-demand, Rooted, refused-file, refused-call, begins, searchable, plan-fits, given-answer}
+use Rattle.search.specs.Goals.{firstFault}
+use Rattle.search.proofs.Called.{Rooted, refused-file, refused-call, begins, searchable, few-rows, plan-fits, given-answer}
 use Rattle.search.proofs.Called.{given-plan, given-demand}
 use Rattle.lists.proofs.Read.{file-refused}
 use borrow.Author.Needs.{needs}
@@ -36,6 +37,15 @@ rooted c =
       fits = passed (l .check-call-with .ensures) (t .enum-told .given .1);
       is = c .root-node .ensures;
     }
+
+-- the test before all others
+first : (c : tie.After-root-node) →
+    let k = c .before .before .before .before .before .before .before .before in
+    let a = k .before .before .before .before .before .before .before .before .before .before .args in
+    firstFault (a .goal) (a .file .now) ≡ fine
+first c =
+    let k = c .before .before .before .before .before .before .before .before in
+    k .before .before .before .before .before .before .before .before .before .before .pre
 
 no-cells-requires : tie.Need-no-cells-requires
 no-cells-requires c κs = search needs
@@ -81,9 +91,14 @@ search-from-requires c κs =
     let b = c .before in
     searchable _ _ _ _ _ _ _ _ (rooted (b .before .before)) _ (b .begin .ensures)
 
+shift-requires : tie.Need-shift-requires
+shift-requires c κs =
+    let b = c .before .before in
+    few-rows _ _ _ _ _ _ _ (rooted (b .before .before))
+
 give-requires : tie.Need-give-requires
 give-requires c κs =
-    let d = c .before in
+    let d = c .before .before in
     let b = d .before .before in
     plan-fits _ _ _ _ _ _ _ _ (rooted (b .before .before)) _ (b .begin .ensures) _ (d .search-from .ensures)
 
@@ -91,13 +106,13 @@ returns : tie.Need-returns
 unfolding searchOutcome filled
 returns c =
     let f = c .before in
-    (refused-file _ _ _ _ _ _ (file-refused _ _ (f .before .before .read-matrix .ensures .0) _ (f .found .given .1)), (refl, refused-demand _ _ _ _ _ _))
+    (refused-file _ _ _ _ _ _ (file-refused _ _ (f .before .before .read-matrix .ensures .0) _ (f .found .given .1)), (refl, λ v e. absurd (refused-none _ v e)))
 
 returns-2 : tie.Need-returns-2
 unfolding searchOutcome filled
 returns-2 c =
     let l = c .before .before .before in
-    (refused-call _ _ _ _ _ _ _ _ (loaded (l .before .before)) _ (failed (l .check-call-with .ensures) _ (c .before .test .given .1)), (refl, refused-demand _ _ _ _ _ _))
+    (refused-call _ _ _ _ _ _ _ _ (loaded (l .before .before)) _ (failed (l .check-call-with .ensures) _ (c .before .test .given .1)), (refl, λ v e. absurd (refused-none _ v e)))
 
 same-length : tie.Need-same-length
 same-length c = search needs
@@ -105,15 +120,20 @@ same-length c = search needs
 returns-3 : tie.Need-returns-3
 returns-3 c =
     let g = c .before .before in
-    let d = g .before .before in
+    let by = g .before .before in
+    let d = by .before in
     let b = d .before .before in
     let w = rooted (b .before .before) in
     let i = b .begin .ensures in
     let x = d .search-from .result in
     let e = d .search-from .ensures in
+    let so = by .shift .ensures in
     let h = g .give .ensures in (
-      given-answer _ _ _ _ _ _ _ _ w _ i x e _ (h .0),
-      (given-plan _ _ _ _ _ _ _ _ w _ i x e _ (h .0) _ _ (h .1 .0), given-demand _ _ _ _ _ _ _ _ w _ i x e _ _ (h .1 .1)),
+      given-answer _ _ _ _ _ _ _ _ w _ i x e _ _ so (h .0),
+      (
+        given-plan _ _ _ _ _ _ _ _ w _ i x e _ _ so (h .0) _ _ (h .1),
+        given-demand _ _ _ _ _ _ _ _ w _ i x e _ _ so (h .0) (first (b .before .before)) _ _ (h .1),
+      ),
     )
 
 pub search-for-spec : {M : Type 1} → statement M
@@ -134,6 +154,7 @@ search-for-spec =
     begin-requires
     slice-aggregate-search-from
     search-from-requires
+    shift-requires
     give-requires
     returns
     returns-2

@@ -1,6 +1,6 @@
--- The longest-duty search call's own clauses, with its outcome in place of its answer; what is seen of the struct is what is seen of the answer.
+-- The longest-duty search call's own clauses, with its outcome in place of its answer; what the struct says is what is answered.
 use Rattle.spp.proofs.Low.{longest-fits}
-use Rattle.spp.proofs.Seen.{seen-holds}
+use Rattle.spp.proofs.Seen.{values-hold}
 use borrow.Author.Needs.{needs}
 use Rattle.spp.proofs.spp_core_longest.Statement.{statement}
 use Rattle.spp.proofs.spp_core_longest.Tie as tie
@@ -18,7 +18,7 @@ returns : tie.Need-returns
 returns c =
     let r = c .before .before .before .longest .ensures in (
       rw (r .0) at (c .flat-answer .ensures),
-      (rw (r .0) at (r .1 .0), seen-holds _ _ _ (r .1 .1) _ (c .flat-answer .ensures)),
+      (rw (r .0) at (r .1 .0), values-hold _ _ (r .1 .1) _ (c .flat-answer .ensures)),
     )
 
 pub spp-core-longest-spec : {M : Type 1} → statement M

@@ -8,7 +8,7 @@ read-requires : tie.Need-read-requires
 read-requires c κs = search needs
 
 flat-shape-requires : tie.Need-flat-shape-requires
-flat-shape-requires c κs = rw (c .before .before .before .before .before .before .read .ensures .0) (reading-fits _ _ _ _)
+flat-shape-requires c κs = rw (c .before .before .before .before .before .read .ensures .0) (reading-fits _ _ _ _)
 
 same-length : tie.Need-same-length
 same-length c = search needs
@@ -21,7 +21,7 @@ same-length-3 c = search needs
 
 returns : tie.Need-returns
 returns c =
-    let r = c .before .before .before .before .before .before .before .read .ensures in (
+    let r = c .before .before .before .before .before .before .read .ensures in (
       rw (r .0) at (c .flat-shape .ensures),
       (rw (r .0) at (r .1 .0), (rw (r .0) at (r .1 .1 .0), rw (r .0) at (r .1 .1 .1))),
     )

@@ -8,7 +8,7 @@ reduce-requires : tie.Need-reduce-requires
 reduce-requires c κs = search needs
 
 flat-reduced-requires : tie.Need-flat-reduced-requires
-flat-reduced-requires c κs = rw (c .before .before .before .before .reduce .ensures .0) (reducing-fits _ _ _)
+flat-reduced-requires c κs = rw (c .before .before .before .reduce .ensures .0) (reducing-fits _ _ _)
 
 same-length : tie.Need-same-length
 same-length c = search needs
@@ -18,7 +18,7 @@ same-length-2 c = search needs
 
 returns : tie.Need-returns
 returns c =
-    let r = c .before .before .before .before .before .reduce .ensures in
+    let r = c .before .before .before .before .reduce .ensures in
     (rw (r .0) at (c .flat-reduced .ensures), (rw (r .0) at (r .1 .0), rw (r .0) at (r .1 .1)))
 
 pub spp-core-reduce-spec : {M : Type 1} → statement M

@@ -24,8 +24,8 @@ add-costs c = omega (arith, c .before .loop .inv .wide)
 mul-costs : tie.Need-mul-costs Inv-loop μ-loop
 mul-costs c = omega (arith, c .before .loop .inv .wide)
 
-element-write-costs : tie.Need-element-write-costs Inv-loop μ-loop
-element-write-costs c = omega (arith, c .before .loop .inv .wide)
+element-set-of-costs : tie.Need-element-set-of-costs Inv-loop μ-loop
+element-set-of-costs c = omega (arith, c .before .loop .inv .wide)
 
 add-lengths : tie.Need-add-lengths Inv-loop μ-loop
 add-lengths c = omega (arith, c .before .loop .inv .wide)
@@ -73,7 +73,7 @@ append-spec =
     loop-holds
     add-costs
     mul-costs
-    element-write-costs
+    element-set-of-costs
     add-lengths
     mul-lengths
     element-write-lengths

@@ -1,10 +1,10 @@
--- The lists of the trial are made, the matrix list is built of them, and the search starts from its root.
-use mathlib.Core.Path.{_≡_}
+-- The lists of the trial are made, the matrix list is built of them, the costs are raised, and the search starts from its root.
+use mathlib.Core.Path.{_≡_, refl}
 use native.Mathlib.Omega.{arith}
 use lib.ListN.{length}
 use Rattle.lists.specs.Loaded.{Loaded}
 use Rattle.lists.proofs.Read.{Listed}
-use Rattle.lists.proofs.Loading.{parts-statable, loaded}
+use Rattle.lists.proofs.Loading.{parts-statable, parts-priced, parts-raised, loaded-as}
 use Rattle.trial.proofs.Made.{more, trialFile, places, made, made-long, searchable, searched}
 use borrow.Author.Needs.{needs}
 use Rattle.trial.proofs.search_trial.Statement.{statement}
@@ -28,14 +28,16 @@ long c =
     made-long _ _ _ _ _ (b .pre .0) _ (b .pre .1) (b .pre .2) _ _ _ (e .0) (e .1 .0) (e .1 .1) (search needs) (search needs) (search needs)
 
 -- and what they are read as
-lists-loaded : (c : tie.After-fill-matrix) →
-    let k = c .before .before .before .before .before .before .before .before .before .before .before in
+lists-loaded : (c : tie.After-raise-all) →
+    let m = c .before .before .before .before .before in
+    let k = m .before .before .before .before .before .before .before .before .before .before .before in
     let a = k .before .before .before .before .args in
-    Loaded (trialFile (a .found) (a .costs) (a .lengths) (a .numbers) (a .k)) (more (a .found) (a .k)) (c .fill-matrix .last .1 .1 .1 .0) (k .append .last .1 .1 .0)
+    Loaded (trialFile (a .found) (a .costs) (a .lengths) (a .numbers) (a .k)) (more (a .found) (a .k)) (m .fill-matrix .last .1 .1 .1 .0) (c .raise-all .result)
 lists-loaded c =
-    let k = c .before .before .before .before .before .before .before .before .before .before .before in
-    let e = c .fill-matrix .ensures in
-    loaded _ _ _ _ _ (lists-made k) _ (e .0) (long k .0) (e .1)
+    let m = c .before .before .before .before .before in
+    let l = lists-made (m .before .before .before .before .before .before .before .before .before .before .before) in
+    let e = m .fill-matrix .ensures in
+    loaded-as _ _ _ _ _ l _ _ (e .0) (parts-raised _ _ _ _ _ l _ (c .raise-all .ensures)) (e .1) _ refl
 
 append-requires : tie.Need-append-requires
 append-requires c κs = let p = c .before .before .before .pre in places _ _ _ _ _ (p .0) _ (p .1) (p .2)
@@ -76,11 +78,32 @@ part-fill-matrix-end-2 c = let k = c .before .before .before .before .before .be
 fill-matrix-requires : tie.Need-fill-matrix-requires
 fill-matrix-requires c κs = parts-statable _ _ _ _ _ (lists-made (c .before .before .before .before .before .before .before .before .before .before))
 
+sub-raise-all : tie.Need-sub-raise-all
+sub-raise-all c = search needs
+
+part-raise-all-start : tie.Need-part-raise-all-start
+part-raise-all-start c = search needs
+
+part-raise-all-end : tie.Need-part-raise-all-end
+part-raise-all-end c = let k = c .before .before .before .before .before .before .before .before .before .before .before .before in omega (arith, lists-made k .columns, long k .0)
+
+sub-raise-all-2 : tie.Need-sub-raise-all-2
+sub-raise-all-2 c = search needs
+
+part-raise-all-start-2 : tie.Need-part-raise-all-start-2
+part-raise-all-start-2 c = search needs
+
+part-raise-all-end-2 : tie.Need-part-raise-all-end-2
+part-raise-all-end-2 c = let k = c .before .before .before .before .before .before .before .before .before .before .before .before .before .before in omega (arith, lists-made k .columns, long k .1)
+
+raise-all-requires : tie.Need-raise-all-requires
+raise-all-requires c κs = parts-priced _ _ _ _ _ (lists-made (c .before .before .before .before .before .before .before .before .before .before .before .before .before .before .before))
+
 slice-aggregate-root-node : tie.Need-slice-aggregate-root-node
 slice-aggregate-root-node c = search needs
 
 root-node-requires : tie.Need-root-node-requires
-root-node-requires c κs = c .before .fill-matrix .ensures .1 .kept
+root-node-requires c κs = c .before .before .before .before .before .before .fill-matrix .ensures .1 .kept
 
 slice-aggregate-search-live : tie.Need-slice-aggregate-search-live
 slice-aggregate-search-live c = search needs
@@ -91,13 +114,13 @@ slice-aggregate-search-live-2 c = search needs
 search-live-requires : tie.Need-search-live-requires
 search-live-requires c κs =
     let m = c .before .before .before .before in
-    let p = m .before .before .before .before .before .before .before .before .before .before .before .before .before .before .before .pre in
+    let p = m .before .before .before .before .before .before .before .before .before .before .before .before .before .before .before .before .before .before .before .before .pre in
     searchable _ _ _ _ _ (p .0) _ (p .1) (p .2) _ _ (lists-loaded m) _ (c .before .before .root-node .ensures)
 
 returns : tie.Need-returns
 returns c =
     let m = c .before .before .before .before .before in
-    let p = m .before .before .before .before .before .before .before .before .before .before .before .before .before .before .before .pre in
+    let p = m .before .before .before .before .before .before .before .before .before .before .before .before .before .before .before .before .before .before .before .before .pre in
     searched _ _ _ _ _ (p .0) _ (p .1) (p .2) _ _ (lists-loaded m) _ (c .before .before .before .root-node .ensures) (c .search-live .result) (c .search-live .ensures)
 
 pub search-trial-spec : {M : Type 1} → statement M
@@ -117,6 +140,13 @@ search-trial-spec =
     part-fill-matrix-start-2
     part-fill-matrix-end-2
     fill-matrix-requires
+    sub-raise-all
+    part-raise-all-start
+    part-raise-all-end
+    sub-raise-all-2
+    part-raise-all-start-2
+    part-raise-all-end-2
+    raise-all-requires
     slice-aggregate-root-node
     root-node-requires
     slice-aggregate-search-live

@@ -5,6 +5,7 @@ use native.Mathlib.Omega.{arith}
 use borrow.Author.Tests.{not-true, not-false}
 use Rattle.refusals.specs.Refusals.{fine, accepted}
 use Rattle.refusals.proofs.Laws.{accepts}
+use Rattle.signed.proofs.Signs.{given}
 use Rattle.dutyfile.specs.File.{shape, rowsIn, columnsIn}
 use Rattle.dutyfile.specs.declared.Shape.{Shape}
 use Rattle.dutyfile.specs.Faults.{rising, fileFault}
@@ -77,8 +78,9 @@ returns-2 c = checking-refused _ _ _ (rw (c .before .found .given .1) at (c .bef
 returns-3 : tie.Need-returns-3
 returns-3 c =
     let r = ready (c .before .before .before .before) in
+    let t = c .before .total-cost in
     c .judge .ensures
-    ∙ ap accepted (verdict-is _ _ (offered _ _ (r .0) (r .1)) _ _ _ (c .before .before .before .cover-counts .ensures) (c .before .total-cost .ensures) (rows-is (c .before .before .before .before .before .before .before)))
+    ∙ ap accepted (verdict-is _ _ (offered _ _ (r .0) (r .1)) _ _ _ (c .before .before .before .cover-counts .ensures) (given _ (t .ok) ∙ t .ensures) (rows-is (c .before .before .before .before .before .before .before)))
     ∙ checking-done _ _ (r .0) (r .1)
 
 pub check-plan-spec : {M : Type 1} → statement M

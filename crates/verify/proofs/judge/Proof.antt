@@ -4,6 +4,8 @@ use Prim.Native.Nat.{_≤_, _-_}
 use native.Mathlib.Nat.{sub-zero}
 use native.Mathlib.Omega.{arith}
 use lib.ListN.{getD}
+use mir.Facts.{toZ-ofZ}
+use Rattle.signed.specs.Signed.{signed}
 use Rattle.refusals.specs.Refusals.{accepted}
 use Rattle.verify.specs.Verdict.{lowest, checkOutcome}
 use Rattle.verify.proofs.Verdicts.{lowest-stop, lowest-next, lowest-end}
@@ -11,7 +13,7 @@ use Rattle.verify.proofs.judge.Statement.{statement}
 use Rattle.verify.proofs.judge.Tie as tie
 
 abbrev Inv-loop : tie.InvT-loop
-Inv-loop covered rows cost i₀ i = (i ≤ rows) × (lowest (λ k. getD covered k 0) cost (rows - i) i ≡ lowest (λ k. getD covered k 0) cost rows 0)
+Inv-loop covered rows cost i₀ i = (i ≤ rows) × (lowest (λ k. getD covered k 0) (signed cost) (rows - i) i ≡ lowest (λ k. getD covered k 0) (signed cost) rows 0)
 
 abbrev μ-loop : tie.MeasureT-loop
 μ-loop covered rows cost i₀ i = rows - i
@@ -32,7 +34,9 @@ returns : tie.Need-returns Inv-loop μ-loop
 unfolding checkOutcome
 returns c =
     let l = c .before .before in
-    ap accepted (sym (sym (l .before .loop .inv .1) ∙ lowest-stop (λ k. getD (l .before .before .args .covered .now) k 0) _ _ _ (l .loop-test .taken) (c .if1 .taken)))
+    let s = l .before .before in
+    rw (toZ-ofZ (s .fits .cost)) at
+    (ap accepted (sym (sym (l .before .loop .inv .1) ∙ lowest-stop (λ k. getD (s .args .covered .now) k 0) _ _ _ (l .loop-test .taken) (c .if1 .taken))))
 
 add-i : tie.Need-add-i Inv-loop μ-loop
 add-i c = omega arith
@@ -47,7 +51,11 @@ loop-again c =
 
 returns-2 : tie.Need-returns-2 Inv-loop μ-loop
 unfolding checkOutcome
-returns-2 c = ap accepted (sym (sym (c .before .loop .inv .1) ∙ lowest-end (λ k. getD (c .before .before .args .covered .now) k 0) _ _ _ (c .loop-test .left)))
+returns-2 c =
+    let s = c .before .before in
+    let f = toZ-ofZ (s .fits .cost) in
+    rw f
+    (rw f at (ap accepted (sym (sym (c .before .loop .inv .1) ∙ lowest-end (λ k. getD (s .args .covered .now) k 0) _ _ _ (c .loop-test .left)))))
 
 pub judge-spec : {M : Type 1} → statement M
 judge-spec =

@@ -1,8 +1,11 @@
 -- The costs that are left give, with the sum so far, the whole sum.
-use Prim.Native.Nat.{_+_, _-_}
+use mathlib.Core.Path.{_∙_}
+use Prim.Native.Nat.{_-_}
 use native.Mathlib.Omega.{arith}
 use lib.ListN.{length}
-use Rattle.verify.proofs.Walk.{Costing, costing-start, costing-next, costing-end, offered, few, number-low, entry-room}
+use Rattle.signed.proofs.Signs.{given}
+use Rattle.verify.proofs.Walk.{Costing, costing-start, costing-next, costing-end, offered, number-low, entry-room}
+use borrow.Author.Needs.{needs}
 use Rattle.verify.proofs.total_cost.Statement.{statement}
 use Rattle.verify.proofs.total_cost.Tie as tie
 
@@ -30,16 +33,8 @@ sub-entry-at c = number-low _ _ (c .before .before .loop .inv .offer) _ (c .befo
 entry-at-requires : tie.Need-entry-at-requires Inv-loop μ-loop
 entry-at-requires c κs = entry-room _ _ (c .before .before .loop .inv .offer) _ (c .before .loop-test .taken)
 
-next : (c : tie.After-entry-at Inv-loop μ-loop) →
-    let a = c .before .before .before .before .before .before .args in
-    let l = c .before .before .before .loop in
-    Costing (a .file .now) (a .columns .now) (l .cost + c .entry-at .result .cost) (l .k + 1)
-next c =
-    let t = c .before .before in
-    costing-next _ _ _ _ (t .before .loop .inv) (t .loop-test .taken) _ (c .entry-at .ensures)
-
-add-cost : tie.Need-add-cost Inv-loop μ-loop
-add-cost c = omega (arith, next (c .before) .small, few _ _ (next (c .before) .offer))
+wrapping-add-u32-requires : tie.Need-wrapping-add-u32-requires Inv-loop μ-loop
+wrapping-add-u32-requires c κs = search needs
 
 add-k : tie.Need-add-k Inv-loop μ-loop
 add-k c = omega arith
@@ -48,10 +43,18 @@ loop-less : tie.Need-loop-less Inv-loop μ-loop
 loop-less c = omega arith
 
 loop-again : tie.Need-loop-again Inv-loop μ-loop
-loop-again c = next (c .before)
+loop-again c =
+    let e = c .before in
+    let t = e .before .before in
+    costing-next _ _ _ _ (t .before .loop .inv) (t .loop-test .taken) _ (e .entry-at .ensures) _ (search needs) (c .wrapping-add-u32 .ensures)
+
+from-bits-requires : tie.Need-from-bits-requires Inv-loop μ-loop
+from-bits-requires c κs = search needs
 
 returns : tie.Need-returns Inv-loop μ-loop
-returns c = costing-end _ _ _ _ (c .before .loop .inv) (c .loop-test .left)
+returns c =
+    let l = c .before in
+    given _ (c .from-bits .ok) ∙ c .from-bits .ensures ∙ costing-end _ _ _ _ (l .before .loop .inv) (l .loop-test .left)
 
 pub total-cost-spec : {M : Type 1} → statement M
 total-cost-spec =
@@ -65,8 +68,9 @@ total-cost-spec =
     cast-entry-at
     sub-entry-at
     entry-at-requires
-    add-cost
+    wrapping-add-u32-requires
     add-k
     loop-less
     loop-again
+    from-bits-requires
     returns)

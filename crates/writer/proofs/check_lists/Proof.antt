@@ -25,17 +25,17 @@ enum-known-counts c = search needs
 returns : tie.Need-returns
 unfolding writeOutcome
 returns c =
-    counts-fail _ _ _ _ _ (failed (c .before .before .before .check-counts .ensures) _ (c .before .counts .given .1))
+    counts-fail _ _ _ _ _ _ (failed (c .before .before .before .check-counts .ensures) _ (c .before .counts .given .1))
 
 enum-told : tie.Need-enum-told
 enum-told c = search needs
 
-counted : (c : tie.After-enum-told) → let a = c .before .before .before .before .before .before .args in countsFault (a .rows) (length (a .costs .now)) ≡ fine
+counted : (c : tie.After-enum-told) → let a = c .before .before .before .before .before .args in countsFault (a .rows) (length (a .costs .now)) ≡ fine
 counted c = passed (c .before .before .check-counts .ensures) (c .enum-told .given .1)
 
 returns-2 : tie.Need-returns-2
 unfolding writeOutcome
-returns-2 c = lengths-differ _ _ _ _ (counted (c .before)) (c .if1 .taken)
+returns-2 c = lengths-differ _ _ _ _ _ (counted (c .before)) (c .if1 .taken)
 
 check-columns-requires : tie.Need-check-columns-requires
 check-columns-requires c κs = search needs
@@ -47,8 +47,8 @@ enum-known-columns-2 : tie.Need-enum-known-columns-2
 enum-known-columns-2 c = search needs
 
 totalled : (c : tie.After-check-columns) (total : ℕ) → c .check-columns .result ≡ Rows total →
-    let a = c .before .before .before .before .before .before .before .before .args in
-    (columnsFault (a .rows) 0 (a .costs .now) (a .lengths .now) ≡ fine) × (sum (a .lengths .now) ≡ total)
+    let a = c .before .before .before .before .before .before .before .args in
+    (columnsFault (a .edition) (a .rows) 0 (a .costs .now) (a .lengths .now) ≡ fine) × (sum (a .lengths .now) ≡ total)
 unfolding contentsOutcome
 totalled c total e = accepts _ _ _ (sym (rw e at (c .check-columns .ensures)))
 
@@ -57,20 +57,20 @@ check-numbers-requires c κs =
     let k = c .before .before .before in
     let a = totalled k _ (c .before .columns2 .given .1) in
     let n = counts-fine _ _ (counted (k .before .before)) .columns .most in
-    ((n, omega (arith, sym (a .1), columns-small _ 0 _ _ (k .before .if1 .left) (omega arith) (a .0))), sym (a .1))
+    ((n, omega (arith, sym (a .1), columns-small _ _ 0 _ _ (k .before .if1 .left) (omega arith) (a .0))), sym (a .1))
 
 returns-3 : tie.Need-returns-3
 unfolding writeOutcome contentsOutcome
 returns-3 c =
     let k = c .before .before .before in
-    columns-fail _ _ _ _ (counted (k .before .before)) (k .before .if1 .left) _
+    columns-fail _ _ _ _ _ (counted (k .before .before)) (k .before .if1 .left) _
     (refuses _ _ _ (sym (rw (c .before .columns .given .1) at (k .check-columns .ensures))))
 
 returns-4 : tie.Need-returns-4
 returns-4 c =
     let k = c .before .before .before .before in
     let a = totalled k _ (c .before .before .columns2 .given .1) in
-    rw (sym (a .1)) at (c .check-numbers .ensures) ∙ columns-pass _ _ _ _ (counted (k .before .before)) (k .before .if1 .left) (a .0)
+    rw (sym (a .1)) at (c .check-numbers .ensures) ∙ columns-pass _ _ _ _ _ (counted (k .before .before)) (k .before .if1 .left) (a .0)
 
 pub check-lists-spec : {M : Type 1} → statement M
 check-lists-spec =

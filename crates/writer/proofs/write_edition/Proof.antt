@@ -9,8 +9,8 @@ use Rattle.writer.specs.Answer.{writeOutcome}
 use Rattle.writer.specs.declared.WriteAnswer.the-variants.{Written}
 use Rattle.writer.proofs.Tested.{tested, writing-refused, writing-fine, writing-size, writing-short, writing-done}
 use borrow.Author.Needs.{needs}
-use Rattle.writer.proofs.write.Statement.{statement}
-use Rattle.writer.proofs.write.Tie as tie
+use Rattle.writer.proofs.write_edition.Statement.{statement}
+use Rattle.writer.proofs.write_edition.Tie as tie
 
 check-lists-requires : tie.Need-check-lists-requires
 check-lists-requires c κs = search needs
@@ -23,8 +23,8 @@ enum-known-tested c = search needs
 
 -- the lists pass, with the file's length
 passed : (c : tie.After-check-lists) (size : ℕ) → c .check-lists .result ≡ Written size →
-    let a = c .before .before .before .before .before .args in
-    accepted size ≡ tested (lists (a .rows) (a .costs .now) (a .lengths .now) (a .numbers .now))
+    let a = c .before .before .before .before .args in
+    accepted size ≡ tested (lists (a .edition) (a .rows) (a .costs .now) (a .lengths .now) (a .numbers .now))
 unfolding writeOutcome
 passed c size e = rw e at (c .check-lists .ensures)
 
@@ -52,8 +52,8 @@ returns-3 c =
     let k = c .before .before .before .before in
     (writing-done _ _ _ (passed (k .before .before .before .before) _ (k .before .before .tested .given .1)) (k .if1 .left), c .before .before .put-file .ensures)
 
-pub write-spec : {M : Type 1} → statement M
-write-spec =
+pub write-edition-spec : {M : Type 1} → statement M
+write-edition-spec =
     tie.close
     (tie.spec
     check-lists-requires

@@ -1,0 +1,2 @@
+mod Bits
+mod Table
