@@ -3,7 +3,7 @@
  * the roster. The numbers after `agreed` are those of duties that must be in the plan, and after `absent` of duties that must not be; both
  * rise, and an absent duty is struck from the agreed ones. Those after `pairs` are the first and the second duty of each pair in turn: the
  * first may be in the plan only if the second is. With `drag` it makes an empty desk over the file, puts duty N in at +N and takes it out
- * at -N, and says after each such step whether the duties in are a plan.
+ * at -N, and says after each such step whether the duties in are a plan. The file may be SPP1 or SPP2, but `longest` takes SPP1 alone.
  *
  *     gcc -Iinclude examples/desk.c target/staticlib/libspp.a -o desk
  *     ./desk FILE [ALLOWANCE [sum|longest [agreed N..] [absent N..] [pairs N N..]]]
@@ -12,6 +12,7 @@
  * Exit status: 0 with a roster, or with a plan on the desk at the end; 1 if there is no plan to show; 2 with an error.
  */
 #include <errno.h>
+#include <inttypes.h>
 #include <stdio.h>
 #include <stdlib.h>
 #include <string.h>
@@ -22,7 +23,7 @@
 struct duties {
     uint8_t file[SPP_MOST_BYTES + 1];
     size_t length;
-    uint32_t costs[SPP_MOST_COLUMNS];
+    int32_t costs[SPP_MOST_COLUMNS];
     uint16_t lengths[SPP_MOST_COLUMNS];
     uint8_t rows[SPP_MOST_ENTRIES];
     struct spp_shape shape;
@@ -45,7 +46,7 @@ struct asked {
 /* The first refusals, each at the place of its number. */
 static const char *const reasons[] = {
     "accepted",
-    "not a duty file (it has under 8 bytes or does not begin with SPP1)",
+    "not a duty file (it has under 8 bytes or begins with neither SPP1 nor SPP2)",
     "the number of sailings or duties is out of range",
     "the file ends inside its contents",
     "a price is out of range",
@@ -80,11 +81,15 @@ static const char *reason(uint32_t refusal) {
     }
 }
 
-/* Prints a refusal behind the lines printed before. */
-static int refused(const char *call, uint32_t refusal) {
+/* Prints a refusal and why, behind the lines printed before. */
+static int refused_as(const char *call, uint32_t refusal, const char *why) {
     fflush(stdout);
-    fprintf(stderr, "desk: %s refused, %u: %s\n", call, (unsigned)refusal, reason(refusal));
+    fprintf(stderr, "desk: %s refused, %u: %s\n", call, (unsigned)refusal, why);
     return 2;
+}
+
+static int refused(const char *call, uint32_t refusal) {
+    return refused_as(call, refusal, reason(refusal));
 }
 
 /* Reads at most one byte more than a duty file may have, so that a longer file is seen to be too long. */
@@ -113,7 +118,7 @@ static void print_duty(const struct duties *duties, uint16_t column) {
     for (i = 0; i + 1 < column; i++) {
         start += duties->lengths[i];
     }
-    printf("duty %u, price %u, sailings", (unsigned)column, (unsigned)duties->costs[column - 1]);
+    printf("duty %u, price %" PRId32 ", sailings", (unsigned)column, duties->costs[column - 1]);
     for (i = 0; i < duties->lengths[column - 1]; i++) {
         printf(" %u", (unsigned)duties->rows[start + i]);
     }
@@ -121,8 +126,8 @@ static void print_duty(const struct duties *duties, uint16_t column) {
 }
 
 /* The price of the dearest duty of a plan. */
-static uint64_t dearest(const struct duties *duties, const uint16_t *plan, size_t count) {
-    uint64_t most = 0;
+static int64_t dearest(const struct duties *duties, const uint16_t *plan, size_t count) {
+    int64_t most = SPP_LEAST_COST;
     size_t i;
     for (i = 0; i < count; i++) {
         if (duties->costs[plan[i] - 1] > most) {
@@ -143,9 +148,9 @@ static int print_roster(const struct duties *duties, struct spp_answer answer, c
         fprintf(stderr, "desk: the plan shown does not pass the plan check\n");
         return 2;
     }
-    printf("%s roster: %u duties, %s %llu, floor %llu, %u nodes\n", answer.outcome == SPP_BEST ? "best" : "stopped",
-           (unsigned)answer.columns, longest ? "longest duty" : "price", (unsigned long long)answer.price,
-           (unsigned long long)answer.bound, (unsigned)answer.nodes);
+    printf("%s roster: %u duties, %s %" PRId64 ", floor %" PRId64 ", %u nodes\n",
+           answer.outcome == SPP_BEST ? "best" : "stopped", (unsigned)answer.columns, longest ? "longest duty" : "price",
+           answer.price, answer.bound, (unsigned)answer.nodes);
     for (i = 0; i < answer.columns; i++) {
         print_duty(duties, plan[i]);
     }
@@ -179,6 +184,11 @@ static int solve(const struct duties *duties, uint32_t node_limit, int longest, 
     uint16_t plan[SPP_MOST_ROWS];
     struct spp_answer answer = (longest ? spp_longest_with : spp_search_with)(duties->file, duties->length, node_limit,
                                                                               lists, plan, SPP_MOST_ROWS);
+    if (answer.refusal == SPP_BAD_MARK) {
+        /* The reader took the file, so the search does not take its edition. */
+        return refused_as("the search", answer.refusal,
+                          "the longest duty is searched for in SPP1 files alone, and this is SPP2");
+    }
     if (answer.refusal) {
         return refused("the search", answer.refusal);
     }
@@ -190,8 +200,7 @@ static int solve(const struct duties *duties, uint32_t node_limit, int longest, 
         print_unmet(lists);
         printf(", %u nodes\n", (unsigned)answer.nodes);
     } else {
-        printf("no roster: stopped without a plan, floor %llu, %u nodes\n", (unsigned long long)answer.bound,
-               (unsigned)answer.nodes);
+        printf("no roster: stopped without a plan, floor %" PRId64 ", %u nodes\n", answer.bound, (unsigned)answer.nodes);
     }
     return 1;
 }

@@ -5,7 +5,8 @@
  *     gcc -Iinclude examples/uncrewed.c target/staticlib/libspp.a -o uncrewed
  *     ./uncrewed FILE [ALLOWANCE]
  *
- * Exit status: 0 with an answer, 1 if stopped by the allowance, 2 with an error. A refusal is printed by its number in include/spp.h.
+ * Exit status: 0 with an answer, 1 if stopped by the allowance, 2 with an error. A refusal is printed by its number in include/spp.h. The
+ * file must be SPP1.
  */
 #include <errno.h>
 #include <stdio.h>
@@ -57,11 +58,16 @@ static void print_no_crew(struct spp_uncrewed answer, const uint16_t *shown) {
     printf("\n");
 }
 
+/* What is said of an SPP2 file, behind the number of its refusal; nothing of others. */
+static const char *of_edition(const uint8_t *file, size_t length) {
+    return length >= 4 && !memcmp(file, "SPP2", 4) ? ": SPP1 files alone are taken, and this is SPP2" : "";
+}
+
 static int find(const uint8_t *file, size_t length, uint32_t node_limit) {
     uint16_t shown[SPP_MOST_ROWS];
     struct spp_uncrewed answer = spp_uncrewed(file, length, node_limit, shown, SPP_MOST_ROWS);
     if (answer.refusal) {
-        fprintf(stderr, "uncrewed: refused, %u\n", (unsigned)answer.refusal);
+        fprintf(stderr, "uncrewed: refused, %u%s\n", (unsigned)answer.refusal, of_edition(file, length));
         return 2;
     }
     switch (answer.outcome) {

@@ -8,6 +8,15 @@
  *
  * A row is a sailing, a column a duty; both are numbered from 1. A list is lent as a pointer and the number of its places. A call that
  * refuses writes to no list and to no desk. Places beyond what is filled keep their contents. Fields that a case does not use are 0.
+ *
+ * A file begins with its edition, SPP1 or SPP2. A cost is 1 to 1,000,000 in SPP1, and -1,000,000 to 1,000,000 in SPP2, where a column may
+ * earn more than it costs. spp_read, spp_check, spp_search, spp_search_with and the desk take either. spp_reduce, spp_longest,
+ * spp_longest_with and spp_uncrewed take SPP1 alone: they refuse every SPP2 file with SPP_BAD_MARK, which is the engine's first test.
+ * spp_read gives the edition; spp_write writes SPP1, spp_write2 writes SPP2. Costs in lists and a desk's total and price are int32_t, other
+ * prices and lower bounds int64_t: print them by PRId32 and PRId64 of <inttypes.h>. The table of spp_assign and its total are unsigned.
+ *
+ * A plug-in that was written before SPP2 must change its lists of costs and of reduced costs from uint32_t to int32_t, print costs, prices
+ * and lower bounds as signed numbers, and be compiled anew: struct spp_shape has grown. SPP1 files give it the same answers as before.
  */
 #ifndef SPP_H
 #define SPP_H
@@ -27,6 +36,9 @@ extern "C" {
 #define SPP_MOST_COST 1000000
 #define SPP_MOST_NODES 1000000
 
+/* The smallest cost in an accepted SPP2 file; in an SPP1 file it is 1. */
+#define SPP_LEAST_COST (-1000000)
+
 /* The most columns of a file that spp_uncrewed takes. */
 #define SPP_MOST_TRIAL_COLUMNS 192
 
@@ -39,10 +51,10 @@ extern "C" {
 
 /* Values of `refusal`. */
 #define SPP_ACCEPTED 0        /* the call was carried out */
-#define SPP_BAD_MARK 1        /* the file has under 8 bytes, or does not begin with SPP1 */
+#define SPP_BAD_MARK 1        /* the file has under 8 bytes, or begins with neither SPP1 nor, where that is taken, SPP2 */
 #define SPP_BAD_SIZE 2        /* number of rows or columns out of range */
 #define SPP_CUT_CONTENTS 3    /* the file ends inside the contents */
-#define SPP_BAD_COST 4        /* a cost is out of range */
+#define SPP_BAD_COST 4        /* a cost is out of the range of the file's edition, or of the one to be written */
 #define SPP_BAD_LENGTH 5      /* a body length is out of range */
 #define SPP_MANY_ENTRIES 6    /* the body lengths sum to more than 4,096, for spp_uncrewed with its extra columns */
 #define SPP_BAD_START 7       /* a body does not start where the former ends */
@@ -81,9 +93,10 @@ struct spp_shape {
     uint32_t rows;    /* number of rows, 1 to 64 */
     uint32_t columns; /* number of columns, 1 to 256 */
     uint32_t entries; /* number of row numbers in all bodies, at most 4,096 */
+    uint32_t edition; /* 1 for SPP1, 2 for SPP2: spp_write or spp_write2 gives the file back */
 };
 
-/* What the writer wrote. */
+/* What a writer wrote. */
 struct spp_written {
     uint32_t refusal; /* 0, or why nothing was written */
     uint32_t length;  /* number of bytes written at the front of the buffer */
@@ -95,14 +108,14 @@ struct spp_checked {
     uint32_t is_plan; /* 1 if each row is covered exactly once, else 0 */
     uint32_t row;     /* with no plan: the lowest row not covered exactly once */
     uint32_t covered; /* with no plan: how often that row is covered */
-    uint64_t price;   /* with a plan: the sum of its costs */
+    int64_t price;    /* with a plan: the sum of its costs */
 };
 
 /* What reducing gave. */
 struct spp_reduced {
     uint32_t refusal; /* 0, or why nothing was reduced */
     uint32_t used;    /* number of rows used, filled in at the front of the order list */
-    uint64_t bound;   /* the lower bound (floor): no plan costs less */
+    int64_t bound;    /* the lower bound (floor): no plan costs less */
 };
 
 /*
@@ -134,8 +147,8 @@ struct spp_answer {
     uint32_t has_plan; /* 1 if a plan is shown, else 0 */
     uint32_t columns;  /* number of columns of the plan shown, filled in at the front of the plan list */
     uint32_t nodes;    /* number of nodes entered */
-    uint64_t price;    /* price of the plan shown */
-    uint64_t bound;    /* with best and stopped: the root's lower bound (root floor); no plan has a lower price */
+    int64_t price;     /* price of the plan shown */
+    int64_t bound;     /* with best and stopped: the root's lower bound (root floor); no plan has a lower price */
 };
 
 /*
@@ -185,13 +198,16 @@ struct spp_reply {
 };
 
 /* The engine. No two lists of a call may overlap and no pointer may be null, not even for an empty list. */
-struct spp_shape spp_core_read(const uint8_t *file, size_t file_count, uint32_t *costs, size_t cost_count,
+struct spp_shape spp_core_read(const uint8_t *file, size_t file_count, int32_t *costs, size_t cost_count,
                                uint16_t *lengths, size_t length_count, uint8_t *rows, size_t row_count);
-struct spp_written spp_core_write(uint16_t rows, const uint32_t *costs, size_t cost_count, const uint16_t *lengths,
+struct spp_written spp_core_write(uint16_t rows, const int32_t *costs, size_t cost_count, const uint16_t *lengths,
                                   size_t length_count, const uint8_t *row_numbers, size_t row_count, uint8_t *out,
                                   size_t out_count);
+struct spp_written spp_core_write2(uint16_t rows, const int32_t *costs, size_t cost_count, const uint16_t *lengths,
+                                   size_t length_count, const uint8_t *row_numbers, size_t row_count, uint8_t *out,
+                                   size_t out_count);
 struct spp_checked spp_core_check(const uint8_t *file, size_t file_count, const uint16_t *columns, size_t column_count);
-struct spp_reduced spp_core_reduce(const uint8_t *file, size_t file_count, uint32_t *reduced, size_t reduced_count,
+struct spp_reduced spp_core_reduce(const uint8_t *file, size_t file_count, int32_t *reduced, size_t reduced_count,
                                    uint8_t *order, size_t order_count);
 struct spp_answer spp_core_search(const uint8_t *file, size_t file_count, uint32_t node_limit, const uint16_t *agreed,
                                   size_t agreed_count, const uint16_t *absent, size_t absent_count, const uint16_t *pairs,
@@ -210,6 +226,11 @@ struct spp_step spp_core_desk_add(const uint8_t *file, size_t file_count, uint32
 struct spp_step spp_core_desk_remove(const uint8_t *file, size_t file_count, uint32_t column, uint8_t *marks,
                                      uint32_t *covered, uint32_t *off, int32_t *total);
 struct spp_reply spp_core_desk_reply(uint32_t off, int32_t total);
+
+/* One of the engine's two writers. */
+typedef struct spp_written (*spp_core_writer)(uint16_t rows, const int32_t *costs, size_t cost_count,
+                                              const uint16_t *lengths, size_t length_count, const uint8_t *row_numbers,
+                                              size_t row_count, uint8_t *out, size_t out_count);
 
 /* One of the engine's two searches. */
 typedef struct spp_answer (*spp_core_call)(const uint8_t *file, size_t file_count, uint32_t node_limit,
@@ -272,15 +293,15 @@ static inline uint32_t spp_guard(const struct spp_list *lists, size_t count) {
  * Reads a duty file: fills in the cost of each column, the length of each body and the row numbers of all bodies.
  * The lists must hold as many places as there are columns, columns and entries.
  */
-static inline struct spp_shape spp_read(const uint8_t *file, size_t file_count, uint32_t *costs, size_t cost_count,
+static inline struct spp_shape spp_read(const uint8_t *file, size_t file_count, int32_t *costs, size_t cost_count,
                                         uint16_t *lengths, size_t length_count, uint8_t *rows, size_t row_count) {
     const struct spp_list lists[4] = {{file, file_count, sizeof *file},
                                       {costs, cost_count, sizeof *costs},
                                       {lengths, length_count, sizeof *lengths},
                                       {rows, row_count, sizeof *rows}};
-    struct spp_shape refused = {0, 0, 0, 0};
+    struct spp_shape refused = {0, 0, 0, 0, 0};
     uint8_t no_file = 0, no_row = 0;
-    uint32_t no_cost = 0;
+    int32_t no_cost = 0;
     uint16_t no_length = 0;
     refused.refusal = spp_guard(lists, 4);
     if (refused.refusal) {
@@ -290,27 +311,44 @@ static inline struct spp_shape spp_read(const uint8_t *file, size_t file_count, 
                          lengths ? lengths : &no_length, length_count, rows ? rows : &no_row, row_count);
 }
 
-/*
- * Writes a duty file at the front of `out`. The number of columns is that of the costs; the body lengths are as many, and the row
- * numbers as many as the lengths sum to.
- */
-static inline struct spp_written spp_write(uint16_t rows, const uint32_t *costs, size_t cost_count, const uint16_t *lengths,
-                                           size_t length_count, const uint8_t *row_numbers, size_t row_count, uint8_t *out,
-                                           size_t out_count) {
+/* A file written by the engine's call, with its lists guarded. */
+static inline struct spp_written spp_guarded_write(spp_core_writer call, uint16_t rows, const int32_t *costs,
+                                                   size_t cost_count, const uint16_t *lengths, size_t length_count,
+                                                   const uint8_t *row_numbers, size_t row_count, uint8_t *out,
+                                                   size_t out_count) {
     const struct spp_list lists[4] = {{costs, cost_count, sizeof *costs},
                                       {lengths, length_count, sizeof *lengths},
                                       {row_numbers, row_count, sizeof *row_numbers},
                                       {out, out_count, sizeof *out}};
     struct spp_written refused = {0, 0};
     uint8_t no_row = 0, no_byte = 0;
-    uint32_t no_cost = 0;
+    int32_t no_cost = 0;
     uint16_t no_length = 0;
     refused.refusal = spp_guard(lists, 4);
     if (refused.refusal) {
         return refused;
     }
-    return spp_core_write(rows, costs ? costs : &no_cost, cost_count, lengths ? lengths : &no_length, length_count,
-                          row_numbers ? row_numbers : &no_row, row_count, out ? out : &no_byte, out_count);
+    return call(rows, costs ? costs : &no_cost, cost_count, lengths ? lengths : &no_length, length_count,
+                row_numbers ? row_numbers : &no_row, row_count, out ? out : &no_byte, out_count);
+}
+
+/*
+ * Writes an SPP1 file at the front of `out`. The number of columns is that of the costs; the body lengths are as many, and the row
+ * numbers as many as the lengths sum to.
+ */
+static inline struct spp_written spp_write(uint16_t rows, const int32_t *costs, size_t cost_count, const uint16_t *lengths,
+                                           size_t length_count, const uint8_t *row_numbers, size_t row_count, uint8_t *out,
+                                           size_t out_count) {
+    return spp_guarded_write(spp_core_write, rows, costs, cost_count, lengths, length_count, row_numbers, row_count, out,
+                             out_count);
+}
+
+/* Writes an SPP2 file, whose costs are -1,000,000 to 1,000,000; all else is as for spp_write. */
+static inline struct spp_written spp_write2(uint16_t rows, const int32_t *costs, size_t cost_count, const uint16_t *lengths,
+                                            size_t length_count, const uint8_t *row_numbers, size_t row_count, uint8_t *out,
+                                            size_t out_count) {
+    return spp_guarded_write(spp_core_write2, rows, costs, cost_count, lengths, length_count, row_numbers, row_count, out,
+                             out_count);
 }
 
 /* Checks whether the offered columns, rising, are a plan of the file. */
@@ -328,17 +366,17 @@ static inline struct spp_checked spp_check(const uint8_t *file, size_t file_coun
 }
 
 /*
- * Reduces the costs of the file: fills in the reduced cost of each column and the rows in the sequence used.
+ * Reduces the costs of the file, SPP1 alone: fills in the reduced cost of each column and the rows in the sequence used.
  * The lists must hold as many places as there are columns and rows.
  */
-static inline struct spp_reduced spp_reduce(const uint8_t *file, size_t file_count, uint32_t *reduced, size_t reduced_count,
+static inline struct spp_reduced spp_reduce(const uint8_t *file, size_t file_count, int32_t *reduced, size_t reduced_count,
                                             uint8_t *order, size_t order_count) {
     const struct spp_list lists[3] = {{file, file_count, sizeof *file},
                                       {reduced, reduced_count, sizeof *reduced},
                                       {order, order_count, sizeof *order}};
     struct spp_reduced refused = {0, 0, 0};
     uint8_t no_file = 0, no_row = 0;
-    uint32_t no_cost = 0;
+    int32_t no_cost = 0;
     refused.refusal = spp_guard(lists, 3);
     if (refused.refusal) {
         return refused;
@@ -374,13 +412,16 @@ static inline struct spp_answer spp_guarded_search(spp_core_call call, const uin
  * Searches for a plan with the least sum of costs that holds every agreed column that is not absent and no absent one, and obeys the
  * pairs, and enters at most `node_limit` nodes, 1 to 1,000,000: fills in the plan's columns, rising. The plan list must hold as many
  * places as there are rows. The struct is lent as the lists are: it must not be null nor share a byte with one of them.
+ *
+ * In an SPP2 file the search takes each column's cost with 1,000,000 more for each row that it covers. Every plan's price is then
+ * 1,000,000 higher for each row of the file, which is taken off the price and the lower bound answered.
  */
 static inline struct spp_answer spp_search_with(const uint8_t *file, size_t file_count, uint32_t node_limit,
                                                 const struct spp_lists *lists, uint16_t *plan, size_t plan_count) {
     return spp_guarded_search(spp_core_search, file, file_count, node_limit, lists, plan, plan_count);
 }
 
-/* Searches for a plan whose largest cost is least (its longest duty); all else is as for spp_search_with. */
+/* Searches an SPP1 file for a plan whose largest cost is least (its longest duty); all else is as for spp_search_with. */
 static inline struct spp_answer spp_longest_with(const uint8_t *file, size_t file_count, uint32_t node_limit,
                                                  const struct spp_lists *lists, uint16_t *plan, size_t plan_count) {
     return spp_guarded_search(spp_core_longest, file, file_count, node_limit, lists, plan, plan_count);
@@ -430,8 +471,8 @@ static inline struct spp_assigned spp_assign(size_t crews, size_t vessels, const
  * columns shown are those of the plan of trial k - 1, which may have been stopped, without the extra ones. If each trial has a plan, there
  * is a plan of the file.
  *
- * The file must have at most 192 columns, and with the extra columns of trial 1, one fewer than there are rows, at most 4,096 entries. The
- * list must hold as many places as there are rows.
+ * The file must be SPP1, have at most 192 columns, and with the extra columns of trial 1, one fewer than there are rows, at most 4,096
+ * entries. The list must hold as many places as there are rows.
  */
 static inline struct spp_uncrewed spp_uncrewed(const uint8_t *file, size_t file_count, uint32_t node_limit, uint16_t *shown,
                                                size_t shown_count) {

@@ -17,6 +17,8 @@ pub struct Shape {
     pub rows: u32,
     pub columns: u32,
     pub entries: u32,
+    /// 1 or 2; 0 with a refusal.
+    pub edition: u32,
 }
 
 /// What the writer wrote.
@@ -35,7 +37,7 @@ pub struct Checked {
     pub is_plan: u32,
     pub row: u32,
     pub covered: u32,
-    pub price: u64,
+    pub price: i64,
 }
 
 /// What reducing gave.
@@ -44,7 +46,7 @@ pub struct Checked {
 pub struct Reduced {
     pub refusal: u32,
     pub used: u32,
-    pub bound: u64,
+    pub bound: i64,
 }
 
 /// What a search answers.
@@ -56,8 +58,8 @@ pub struct Answer {
     pub has_plan: u32,
     pub columns: u32,
     pub nodes: u32,
-    pub price: u64,
-    pub bound: u64,
+    pub price: i64,
+    pub bound: i64,
 }
 
 /// What an assignment of crews to vessels answers.

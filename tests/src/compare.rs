@@ -5,6 +5,7 @@ use std::hint::black_box;
 
 use spp_tests::answers::{Answer, Assigned, Checked, Reduced, Reply, Shape, Step, Uncrewed, Written};
 use spp_tests::desk::{Desk, Way, MOST_COLUMNS, MOST_ROWS};
+use spp_tests::edition::Edition;
 use spp_tests::goal::Goal;
 use spp_tests::plain::Recount;
 use spp_tests::requests::Requests;
@@ -55,15 +56,19 @@ fn words(count: usize) -> Lent<u32> {
     Lent::new(count, |place| (place * 13 + 4_000_000_001) as u32)
 }
 
-type ReadCall = fn(&[u8], &mut [u32], &mut [u16], &mut [u8]) -> Shape;
-type WriteCall = fn(u16, &[u32], &[u16], &[u8], &mut [u8]) -> Written;
+fn signed_words(count: usize) -> Lent<i32> {
+    Lent::new(count, |place| -((place * 13 + 1_500_000_001) as i32))
+}
+
+type ReadCall = fn(&[u8], &mut [i32], &mut [u16], &mut [u8]) -> Shape;
+type WriteCall = fn(Edition, u16, &[i32], &[u16], &[u8], &mut [u8]) -> Written;
 
 /// The reader's answer, and its lists after the call.
-type Read = (Shape, Lent<u32>, Lent<u16>, Lent<u8>);
+type Read = (Shape, Lent<i32>, Lent<u16>, Lent<u8>);
 
 pub fn read(report: &mut Report, file: &[u8], rooms: [usize; 3]) -> Read {
     let run = |call: ReadCall| -> Read {
-        let (mut costs, mut lengths, mut numbers) = (words(rooms[0]), shorts(rooms[1]), bytes(rooms[2]));
+        let (mut costs, mut lengths, mut numbers) = (signed_words(rooms[0]), shorts(rooms[1]), bytes(rooms[2]));
         let shape = call(file, costs.list_mut(), lengths.list_mut(), numbers.list_mut());
         (shape, costs, lengths, numbers)
     };
@@ -72,10 +77,11 @@ pub fn read(report: &mut Report, file: &[u8], rooms: [usize; 3]) -> Read {
     found
 }
 
-/// The lists that the writer takes.
+/// The lists that the writers take, and the edition whose writer they are for.
 pub struct Lists {
+    pub edition: Edition,
     pub rows: u16,
-    pub costs: Vec<u32>,
+    pub costs: Vec<i32>,
     pub lengths: Vec<u16>,
     pub numbers: Vec<u8>,
 }
@@ -83,12 +89,12 @@ pub struct Lists {
 pub fn write(report: &mut Report, lists: &Lists, room: usize) -> (Written, Lent<u8>) {
     let run = |call: WriteCall| {
         let mut out = bytes(room);
-        (call(lists.rows, &lists.costs, &lists.lengths, &lists.numbers, out.list_mut()), out)
+        (call(lists.edition, lists.rows, &lists.costs, &lists.lengths, &lists.numbers, out.list_mut()), out)
     };
     let found = run(engine::write);
     report.same(&found, &run(plain::write), || {
-        let Lists { rows, costs, lengths, numbers } = lists;
-        format!("writer, rows {rows}, costs {costs:?}, lengths {lengths:?}, row numbers {numbers:?}, room {room}")
+        let Lists { edition, rows, costs, lengths, numbers } = lists;
+        format!("writer of {edition}, rows {rows}, costs {costs:?}, lengths {lengths:?}, row numbers {numbers:?}, room {room}")
     });
     found
 }
@@ -99,9 +105,9 @@ pub fn check(report: &mut Report, file: &[u8], offered: &[u16]) -> Checked {
     found
 }
 
-pub fn reduce(report: &mut Report, file: &[u8], rooms: [usize; 2]) -> (Reduced, Lent<u32>, Lent<u8>) {
-    let run = |call: fn(&[u8], &mut [u32], &mut [u8]) -> Reduced| {
-        let (mut reduced, mut order) = (words(rooms[0]), bytes(rooms[1]));
+pub fn reduce(report: &mut Report, file: &[u8], rooms: [usize; 2]) -> (Reduced, Lent<i32>, Lent<u8>) {
+    let run = |call: fn(&[u8], &mut [i32], &mut [u8]) -> Reduced| {
+        let (mut reduced, mut order) = (signed_words(rooms[0]), bytes(rooms[1]));
         (call(file, reduced.list_mut(), order.list_mut()), reduced, order)
     };
     let found = run(engine::reduce);

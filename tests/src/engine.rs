@@ -2,6 +2,7 @@
 
 use crate::answers::{Answer, Assigned, Checked, Reduced, Reply, Shape, Step, Uncrewed, Written};
 use crate::desk::{Desk, Way};
+use crate::edition::Edition;
 use crate::goal::Goal;
 use crate::requests::Requests;
 use crate::table::Costs;
@@ -10,7 +11,7 @@ extern "C" {
     fn spp_core_read(
         file: *const u8,
         file_count: usize,
-        costs: *mut u32,
+        costs: *mut i32,
         cost_count: usize,
         lengths: *mut u16,
         length_count: usize,
@@ -19,7 +20,18 @@ extern "C" {
     ) -> Shape;
     fn spp_core_write(
         rows: u16,
-        costs: *const u32,
+        costs: *const i32,
+        cost_count: usize,
+        lengths: *const u16,
+        length_count: usize,
+        row_numbers: *const u8,
+        row_count: usize,
+        out: *mut u8,
+        out_count: usize,
+    ) -> Written;
+    fn spp_core_write2(
+        rows: u16,
+        costs: *const i32,
         cost_count: usize,
         lengths: *const u16,
         length_count: usize,
@@ -32,7 +44,7 @@ extern "C" {
     fn spp_core_reduce(
         file: *const u8,
         file_count: usize,
-        reduced: *mut u32,
+        reduced: *mut i32,
         reduced_count: usize,
         order: *mut u8,
         order_count: usize,
@@ -94,7 +106,7 @@ extern "C" {
     fn spp_core_desk_reply(off: u32, total: i32) -> Reply;
 }
 
-pub fn read(file: &[u8], costs: &mut [u32], lengths: &mut [u16], numbers: &mut [u8]) -> Shape {
+pub fn read(file: &[u8], costs: &mut [i32], lengths: &mut [u16], numbers: &mut [u8]) -> Shape {
     unsafe {
         spp_core_read(
             file.as_ptr(),
@@ -109,9 +121,14 @@ pub fn read(file: &[u8], costs: &mut [u32], lengths: &mut [u16], numbers: &mut [
     }
 }
 
-pub fn write(rows: u16, costs: &[u32], lengths: &[u16], numbers: &[u8], out: &mut [u8]) -> Written {
+/// The writer of an edition.
+pub fn write(edition: Edition, rows: u16, costs: &[i32], lengths: &[u16], numbers: &[u8], out: &mut [u8]) -> Written {
+    let call = match edition {
+        Edition::One => spp_core_write,
+        Edition::Two => spp_core_write2,
+    };
     unsafe {
-        spp_core_write(
+        call(
             rows,
             costs.as_ptr(),
             costs.len(),
@@ -129,7 +146,7 @@ pub fn check(file: &[u8], offered: &[u16]) -> Checked {
     unsafe { spp_core_check(file.as_ptr(), file.len(), offered.as_ptr(), offered.len()) }
 }
 
-pub fn reduce(file: &[u8], reduced: &mut [u32], order: &mut [u8]) -> Reduced {
+pub fn reduce(file: &[u8], reduced: &mut [i32], order: &mut [u8]) -> Reduced {
     unsafe { spp_core_reduce(file.as_ptr(), file.len(), reduced.as_mut_ptr(), reduced.len(), order.as_mut_ptr(), order.len()) }
 }
 

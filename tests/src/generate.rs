@@ -6,17 +6,17 @@ use crate::random::Random;
 const MOST_ENTRIES: usize = 4096;
 
 /// Costs of one style for a number of columns.
-fn costs(random: &mut Random, bodies: &[Vec<u8>]) -> Vec<u32> {
+fn costs(random: &mut Random, bodies: &[Vec<u8>]) -> Vec<i32> {
     let style = random.within(0, 6);
-    let same = random.within(1, 1_000_000) as u32;
+    let same = random.within(1, 1_000_000) as i32;
     let of_body = |body: &Vec<u8>, random: &mut Random| match style {
         0 => 1,
         1 => same,
-        2 => random.within(1, 3) as u32,
-        3 => random.within(1, 20) as u32,
-        4 => random.within(1, 1_000_000) as u32,
-        5 => (10 * body.len() + random.within(1, 10)) as u32,
-        _ => (100 + 40 * body.len() + random.within(0, 60)) as u32,
+        2 => random.within(1, 3) as i32,
+        3 => random.within(1, 20) as i32,
+        4 => random.within(1, 1_000_000) as i32,
+        5 => (10 * body.len() + random.within(1, 10)) as i32,
+        _ => (100 + 40 * body.len() + random.within(0, 60)) as i32,
     };
     bodies.iter().map(|body| of_body(body, random)).collect()
 }
@@ -95,7 +95,7 @@ pub(crate) fn finish(random: &mut Random, rows: usize, mut bodies: Vec<Vec<u8>>)
         fits
     });
     let costs = costs(random, &bodies);
-    Columns { rows: rows as u16, costs, bodies }
+    Columns::new(rows as u16, costs, bodies)
 }
 
 /// Up to 6 rows and 10 columns, any bodies.

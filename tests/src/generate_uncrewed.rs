@@ -122,9 +122,9 @@ pub fn ferry_to_last(random: &mut Random) -> Columns {
 /// The columns less some of them, at most 192, and with the extra columns at most 4,096 entries.
 pub fn thinned(random: &mut Random, columns: Columns) -> Columns {
     let percent = [60, 85, 95, 100][random.within(0, 3)];
-    let Columns { rows, costs, bodies } = columns;
+    let Columns { rows, costs, bodies, .. } = columns;
     let mut room = MOST_ENTRIES - (rows as usize - 1);
-    let mut kept = Columns { rows, costs: Vec::new(), bodies: Vec::new() };
+    let mut kept = Columns::new(rows, Vec::new(), Vec::new());
     for (cost, body) in costs.into_iter().zip(bodies) {
         let is_kept = kept.costs.is_empty() || random.chance(percent);
         if is_kept && body.len() <= room && kept.costs.len() < MOST_COLUMNS {

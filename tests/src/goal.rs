@@ -2,6 +2,8 @@
 
 use std::fmt;
 
+use crate::edition::Edition;
+
 #[derive(Clone, Copy, Debug, PartialEq, Eq)]
 pub enum Goal {
     /// The sum of the plan's costs (01).
@@ -12,6 +14,14 @@ pub enum Goal {
 
 impl Goal {
     pub const BOTH: [Goal; 2] = [Goal::Sum, Goal::Longest];
+
+    /// The goals of the searches that take files of an edition (02, P10).
+    pub fn of(edition: Edition) -> &'static [Goal] {
+        match edition {
+            Edition::One => &Goal::BOTH,
+            Edition::Two => &[Goal::Sum],
+        }
+    }
 }
 
 impl fmt::Display for Goal {

@@ -40,12 +40,15 @@ fn on_small_stack() -> bool {
 
 fn compare_all() -> bool {
     let start = Instant::now();
-    let mut report = Report::default();
+    let mut report = Report::new();
     println!("(a) is the plain implementation in tests/src/plain, the second solver is tests/src/second.rs, and for crews onto");
     println!("vessels tests/src/second_assign.rs, for sailings that can't be crewed tests/src/second_uncrewed.rs, for the");
     println!("running plan tests/src/second_desk.rs");
     groups::worked::run(&mut report);
     groups::worked_lists::run(&mut report);
+    groups::earning_worked::run(&mut report);
+    groups::editions::run(&mut report);
+    groups::earning::run(&mut report);
     groups::stored::run(&mut report);
     groups::generated::run(&mut report);
     groups::limits::largest(&mut report);
@@ -76,7 +79,7 @@ fn compare_all() -> bool {
 }
 
 fn compare_stored() -> bool {
-    let mut report = Report::default();
+    let mut report = Report::new();
     groups::stored::run(&mut report);
     report.finish()
 }

@@ -2,6 +2,7 @@
 
 use std::fmt::Debug;
 
+use spp_tests::edition::Edition;
 use spp_tests::goal::Goal;
 
 /// Differences that are printed; further ones are only counted.
@@ -12,23 +13,44 @@ struct Group {
     name: &'static str,
     /// The goal, where each goal has a count of its own.
     goal: Option<Goal>,
+    edition: Edition,
     cases: usize,
 }
 
 impl Group {
     fn title(&self) -> String {
-        self.goal.map_or(self.name.into(), |goal| format!("{} ({goal})", self.name))
+        let title = self.goal.map_or(self.name.into(), |goal| format!("{} ({goal})", self.name));
+        match self.edition {
+            Edition::One => title,
+            Edition::Two => format!("{}: {title}", self.edition),
+        }
     }
 }
 
-#[derive(Default)]
 pub struct Report {
     groups: Vec<Group>,
     current: usize,
+    edition: Edition,
     differences: usize,
 }
 
 impl Report {
+    pub fn new() -> Report {
+        Report { groups: Vec::new(), current: 0, edition: Edition::One, differences: 0 }
+    }
+
+    /// Runs cases of each edition; each edition has counts of its own.
+    pub fn each_edition(&mut self, mut cases: impl FnMut(&mut Report, Edition)) {
+        Edition::BOTH.into_iter().for_each(|edition| self.of_edition(edition, |report| cases(report, edition)));
+    }
+
+    /// The same for one edition.
+    pub fn of_edition(&mut self, edition: Edition, cases: impl FnOnce(&mut Report)) {
+        let former = std::mem::replace(&mut self.edition, edition);
+        cases(self);
+        self.edition = former;
+    }
+
     /// Starts or resumes a group; what is compared next counts there.
     pub fn group(&mut self, name: &'static str) {
         self.resume(name, None);
@@ -40,10 +62,11 @@ impl Report {
     }
 
     fn resume(&mut self, name: &'static str, goal: Option<Goal>) {
-        let place = self.groups.iter().position(|group| group.name == name && group.goal == goal);
+        let edition = self.edition;
+        let place = self.groups.iter().position(|group| (group.name, group.goal, group.edition) == (name, goal, edition));
         self.current = place.unwrap_or(self.groups.len());
         if place.is_none() {
-            self.groups.push(Group { name, goal, cases: 0 });
+            self.groups.push(Group { name, goal, edition, cases: 0 });
         }
     }
 

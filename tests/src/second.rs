@@ -43,22 +43,22 @@ fn by_lowest_row(sets: &[u64], columns: &[usize], rows: u16) -> Vec<Vec<usize>> 
 /// What the table comes to.
 #[derive(Clone, Copy, Debug, PartialEq)]
 pub enum Least {
-    Price(u64),
+    Price(i64),
     NoPlan,
     /// More sets than the table may hold.
     Unknown,
 }
 
 /// The price of some columns and one more.
-fn with(goal: Goal, price: u64, cost: u32) -> u64 {
+fn with(goal: Goal, price: i64, cost: i32) -> i64 {
     match goal {
-        Goal::Sum => price + cost as u64,
-        Goal::Longest => price.max(cost as u64),
+        Goal::Sum => price + cost as i64,
+        Goal::Longest => price.max(cost as i64),
     }
 }
 
 /// The price of a plan, whose columns are numbered from 1.
-pub fn price(columns: &Columns, plan: &[u16], goal: Goal) -> u64 {
+pub fn price(columns: &Columns, plan: &[u16], goal: Goal) -> i64 {
     plan.iter().fold(0, |price, &column| with(goal, price, columns.costs[column as usize - 1]))
 }
 
@@ -107,7 +107,7 @@ fn least_remembering<M: Copy + Eq + Hash>(
     let starters = by_lowest_row(&sets, &left_by(requests, &sets), columns.rows);
     let rows = columns.rows as usize;
     // The sets whose lowest open row is each row; the last place is for all rows covered.
-    let mut tables: Vec<HashMap<(u64, M), u64>> = vec![HashMap::new(); rows + 1];
+    let mut tables: Vec<HashMap<(u64, M), i64>> = vec![HashMap::new(); rows + 1];
     tables[0].insert((0, start), 0);
     let mut size = 0;
     for row in 0..rows {

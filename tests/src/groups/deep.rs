@@ -2,6 +2,7 @@
 //! stack of 2 MiB.
 
 use spp_tests::answers::{Answer, STOPPED};
+use spp_tests::edition::Edition;
 use spp_tests::files::{self, Columns};
 use spp_tests::generate_pairs::{self, MOST_PAIRS};
 use spp_tests::goal::Goal;
@@ -15,11 +16,12 @@ const STACK: usize = 2 << 20;
 
 const LIMIT: u32 = 20_000;
 
-fn deep_files() -> [(&'static str, Columns); 3] {
+fn deep_files() -> [(&'static str, Columns); 4] {
     [
         ("equal prices", files::deepest()),
         ("differing prices", files::deepest_at_differing_costs()),
         ("with plans", files::deep_with_plans()),
+        ("SPP2", files::deepest_at_differing_costs().under(Edition::Two)),
     ]
 }
 
@@ -44,11 +46,16 @@ fn all() -> Vec<Deep> {
     deep_files().into_iter().flat_map(with_pairs).chain([chained]).collect()
 }
 
+/// Those that the search for a goal takes.
+fn all_of(goal: Goal) -> Vec<Deep> {
+    all().into_iter().filter(|deep| Goal::of(deep.columns.edition).contains(&goal)).collect()
+}
+
 pub fn run(report: &mut Report) {
     println!("files with the longest paths:");
     for goal in Goal::BOTH {
         report.group_of(goal, "files with the longest paths");
-        all().iter().for_each(|deep| one_file(report, goal, deep));
+        all_of(goal).iter().for_each(|deep| one_file(report, goal, deep));
     }
 }
 
@@ -68,7 +75,7 @@ fn one_file(report: &mut Report, goal: Goal, deep: &Deep) {
 
 /// The deepest searches on a small thread. A stack overflow ends the process, so this runs as one of its own.
 pub fn on_small_stack() -> bool {
-    Goal::BOTH.iter().all(|&goal| all().into_iter().all(|deep| fits_small_stack(goal, deep)))
+    Goal::BOTH.iter().all(|&goal| all_of(goal).into_iter().all(|deep| fits_small_stack(goal, deep)))
 }
 
 fn fits_small_stack(goal: Goal, deep: Deep) -> bool {

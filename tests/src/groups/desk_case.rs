@@ -101,7 +101,7 @@ impl Desks {
         report.same(&differences(&self.engine, &wanted), &Vec::new(), what);
         report.group("running plan over one file: replies against the full plan check of the duties in, the engine's and (a)'s");
         let checked = compare::check(report, &file.bytes, columns);
-        report.same(&(reply.is_plan, reply.price as i64), &(checked.is_plan, checked.price as i64), what);
+        report.same(&(reply.is_plan, reply.price as i64), &(checked.is_plan, checked.price), what);
         reply
     }
 }

@@ -3,8 +3,10 @@
 
 use spp_tests::answers::Step;
 use spp_tests::desk::Way;
+use spp_tests::edition::Edition;
 use spp_tests::files::{self, columns, Columns};
 use spp_tests::generate_desk::{any_desk, few_rows, largest};
+use spp_tests::generate_earning::in_edition;
 use spp_tests::random::Random;
 
 use super::desk_case::{Desks, File};
@@ -14,10 +16,10 @@ use crate::report::{hex, Report};
 
 const GROUP: &str = "running plan: refusals of the file, then 19, with the desk as it was";
 
-fn some_files(random: &mut Random) -> Vec<Columns> {
+fn some_files(random: &mut Random, edition: Edition) -> Vec<Columns> {
     let mut files = vec![columns(1, &[(&[1], 5)]), files::example_1(), files::example_4(), largest(random)];
     files.extend((0..4).map(|_| few_rows(random)));
-    files
+    files.into_iter().map(|columns| in_edition(random, edition, columns)).collect()
 }
 
 /// All numbers up to 300, and numbers that are in range in their lowest 8, 16 or 31 bits.
@@ -70,8 +72,10 @@ fn faults(report: &mut Report, random: &mut Random, columns: &Columns) {
 
 pub fn run(report: &mut Report) {
     let mut random = Random::new(19);
-    for columns in some_files(&mut random) {
-        faults(report, &mut random, &columns);
-        in_and_out_of_range(report, &mut random, &File::new(columns));
-    }
+    report.each_edition(|report, edition| {
+        for columns in some_files(&mut random, edition) {
+            faults(report, &mut random, &columns);
+            in_and_out_of_range(report, &mut random, &File::new(columns));
+        }
+    });
 }

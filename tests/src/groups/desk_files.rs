@@ -1,11 +1,13 @@
-//! A desk that is stepped over several files (02, P7), so that numbers wrap at 32 bits; and desks of any numbers.
+//! A desk that is stepped over several files of both editions (02, P7), so that numbers wrap at 32 bits; and desks of any numbers.
 
 use spp_tests::answers::Reply;
 use spp_tests::desk::{Desk, Way};
+use spp_tests::edition::Edition;
 use spp_tests::engine;
-use spp_tests::files::columns;
+use spp_tests::files::{columns, Columns};
 use spp_tests::generate;
 use spp_tests::generate_desk::{any_desk, few_rows, largest, plans, single_rows};
+use spp_tests::generate_earning::in_edition;
 use spp_tests::random::Random;
 
 use super::desk_case::{Desks, File};
@@ -68,7 +70,8 @@ fn some_files(random: &mut Random) -> Vec<File> {
     let mut files = vec![columns(1, &[(&[1], 5)]), columns(2, &[(&[1, 2], 9), (&[1], 4), (&[2], 1_000_000)])];
     files.extend([few_rows, generate::tiny, generate::small, generate::ferry, single_rows, largest].map(|make| make(random)));
     files.extend([1, 2, 3, 7, 64].map(|parts| plans(random, 64, parts, 3)));
-    files.into_iter().map(File::new).collect()
+    let earning: Vec<Columns> = files.iter().map(|columns| in_edition(random, Edition::Two, columns.clone())).collect();
+    files.into_iter().chain(earning).map(File::new).collect()
 }
 
 /// A step of any column: of those that a small file has too, of all, or out of range.
@@ -112,9 +115,10 @@ fn walks(report: &mut Report, random: &mut Random) {
     wraps.finish(report, "walks over several files", &numbers);
 }
 
-/// Adds at the least cost and removes at the largest, until the total has wrapped, and then the converse.
-fn total_by_steps(report: &mut Report) {
-    let [cheap, dear] = [1, 1_000_000].map(|cost| File::new(columns(1, &[(&[1], cost)])));
+/// Adds at the least cost of an edition and removes at the largest, until the total has wrapped, and then the converse.
+fn total_by_steps(report: &mut Report, edition: Edition) {
+    let costs = edition.of([[1, 1_000_000], [-1_000_000, 1_000_000]]);
+    let [cheap, dear] = costs.map(|cost| File::new(columns(1, &[(&[1], cost)]).under(edition)));
     for (first, second, way) in [(&cheap, &dear, 0), (&dear, &cheap, 1)] {
         let (mut desks, mut wraps) = (Desks::over(report, first), Wraps::default());
         for _ in 0..2200 {
@@ -163,6 +167,6 @@ pub fn run(report: &mut Report) {
     let mut random = Random::new(32);
     replies(report);
     walks(report, &mut random);
-    total_by_steps(report);
+    report.each_edition(total_by_steps);
     any_desks(report, &mut random);
 }

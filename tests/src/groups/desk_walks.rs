@@ -5,9 +5,11 @@ use std::collections::BTreeSet;
 
 use spp_tests::answers::Step;
 use spp_tests::desk::Way;
+use spp_tests::edition::Edition;
 use spp_tests::files::Columns;
 use spp_tests::generate;
 use spp_tests::generate_desk;
+use spp_tests::generate_earning::in_edition;
 use spp_tests::goal::Goal;
 use spp_tests::plain;
 use spp_tests::random::Random;
@@ -27,22 +29,23 @@ const LIMIT: u32 = 200;
 struct Kind {
     name: &'static str,
     make: fn(&mut Random) -> Columns,
-    files: usize,
+    /// Files of SPP1, and of SPP2.
+    files: [usize; 2],
     steps: usize,
 }
 
 fn kinds() -> Vec<Kind> {
     let kind = |name, make, files, steps| Kind { name, make, files, steps };
     vec![
-        kind("tiny", generate::tiny, 300, 200),
-        kind("small", generate::small, 40, 1000),
-        kind("few sailings", generate_desk::few_rows, 20, 1000),
-        kind("ferry", generate::ferry, 6, 3000),
-        kind("dense", generate::dense, 6, 3000),
-        kind("the largest ferry files", generate::large_ferry, 3, 4000),
-        kind("256 duties of one sailing", generate_desk::single_rows, 3, 4000),
-        kind("64 duties of all sailings", generate_desk::all_rows, 3, 2000),
-        kind("the largest files", generate_desk::largest, 3, 5000),
+        kind("tiny", generate::tiny, [300, 100], 200),
+        kind("small", generate::small, [40, 12], 1000),
+        kind("few sailings", generate_desk::few_rows, [20, 6], 1000),
+        kind("ferry", generate::ferry, [6, 2], 3000),
+        kind("dense", generate::dense, [6, 5], 3000),
+        kind("the largest ferry files", generate::large_ferry, [3, 1], 4000),
+        kind("256 duties of one sailing", generate_desk::single_rows, [3, 1], 4000),
+        kind("64 duties of all sailings", generate_desk::all_rows, [3, 1], 2000),
+        kind("the largest files", generate_desk::largest, [3, 1], 5000),
     ]
 }
 
@@ -183,13 +186,20 @@ impl Walk {
 }
 
 pub fn run(report: &mut Report) {
-    println!("walks of the running plan over one file each:");
-    for (number, kind) in kinds().iter().enumerate() {
-        let (mut random, mut totals) = (Random::new(2026 + number as u64), Totals::default());
-        for _ in 0..kind.files {
-            let columns = (kind.make)(&mut random);
-            Walk::new(&columns, Random::new(random.number())).go(report, kind.steps, &mut totals);
+    report.each_edition(|report, edition| {
+        println!("walks of the running plan over one file each, {edition}:");
+        for (seed, kind) in (2026..).zip(&kinds()) {
+            one_kind(report, kind, edition, Random::new(seed));
         }
-        totals.finish(report, kind.name);
+    });
+}
+
+fn one_kind(report: &mut Report, kind: &Kind, edition: Edition, mut random: Random) {
+    let mut totals = Totals::default();
+    for _ in 0..edition.of(kind.files) {
+        let made = (kind.make)(&mut random);
+        let columns = in_edition(&mut random, edition, made);
+        Walk::new(&columns, Random::new(random.number())).go(report, kind.steps, &mut totals);
     }
+    totals.finish(report, kind.name);
 }

@@ -2,6 +2,7 @@
 
 use spp_tests::answers::{Reply, Step};
 use spp_tests::desk::Way::{self, Add, Remove};
+use spp_tests::edition::Edition;
 use spp_tests::files::{columns, example_4};
 use spp_tests::goal::Goal;
 use spp_tests::plain;
@@ -104,6 +105,27 @@ fn other_files(report: &mut Report) {
     stated(report, "three files", &one, &steps);
 }
 
+/// Column 1 has rows 1 and 2 at -9; column 2 has row 1 at 4 and column 3 row 2 at -4. The other files have row 1 at 5 and at -1,000,000.
+fn earning(report: &mut Report) {
+    let file = File::new(columns(2, &[(&[1, 2], -9), (&[1], 4), (&[2], -4)]).under(Edition::Two));
+    let (one, far) = (File::new(one_duty()), File::new(columns(1, &[(&[1], -1_000_000)]).under(Edition::Two)));
+    let steps = [
+        case(&file, Add, 2, [1, 0], 1, 4),
+        case(&file, Add, 3, [1, 1], 0, 0),
+        case(&file, Add, 1, [2, 2], 2, -9),
+        case(&file, Remove, 2, [1, 2], 1, -13),
+        case(&file, Remove, 3, [1, 1], 0, -9),
+        idle(&far, Add, 1, [1, 1], 0, -9),
+        refused(&far, Remove, 2, [1, 1], 0, -9),
+        case(&far, Remove, 1, [0, 1], 1, 999_991),
+        case(&one, Add, 1, [1, 1], 0, 999_996),
+        case(&file, Remove, 1, [0, 0], 2, 1_000_005),
+        case(&far, Add, 1, [1, 0], 1, 5),
+        case(&one, Remove, 1, [0, 0], 2, 0),
+    ];
+    stated(report, "duties that earn", &file, &steps);
+}
+
 /// The sequences of three columns.
 const SEQUENCES: [[usize; 3]; 6] = [[0, 1, 2], [0, 2, 1], [1, 0, 2], [1, 2, 0], [2, 0, 1], [2, 1, 0]];
 
@@ -164,6 +186,7 @@ fn sample_plans(report: &mut Report) {
 pub fn run(report: &mut Report) {
     one_file(report);
     other_files(report);
+    earning(report);
     every_sequence(report);
     sample_plans(report);
 }

@@ -1,27 +1,33 @@
-//! Generated files: every call against `plain`, both searches against the second solver, every plan shown against the plan check, and
-//! floor plus reduced prices against the price of every plan.
+//! Generated files of both editions: every call against `plain`, both searches against the second solver, every plan shown against the plan
+//! check, and floor plus reduced prices against the price of every plan. Small files are gone through by all choices of columns besides.
 
 use spp_tests::answers::{Answer, STOPPED};
+use spp_tests::edition::Edition;
 use spp_tests::files::Columns;
 use spp_tests::generate;
+use spp_tests::generate_earning::in_edition;
 use spp_tests::goal::Goal;
 use spp_tests::random::Random;
 use spp_tests::requests::Requests;
-use spp_tests::second::{each_plan, least_price, price, Least};
+use spp_tests::second::{each_plan, least_of_choices, least_price, price, Least};
 
 use super::case::Case;
-use super::{limits, prices};
+use super::{editions, limits, prices};
 use crate::compare::{self, Lists};
 use crate::report::{hex, Report};
 
 /// Sets of covered rows that the second solver may hold.
 const MOST_SETS: usize = 60_000;
 
+/// Up to this number of columns all choices are gone through.
+const MOST_COLUMNS: usize = 12;
+
 /// A family of generated files.
 struct Family {
     name: &'static str,
     make: fn(&mut Random) -> Columns,
-    files: usize,
+    /// Files of SPP1, and of SPP2.
+    files: [usize; 2],
     /// The node limit of the searches.
     limit: u32,
     /// Trees up to this size are searched with every node limit.
@@ -33,13 +39,13 @@ struct Family {
 fn families() -> Vec<Family> {
     let family = |name, make, files, limit, every_limit, plans| Family { name, make, files, limit, every_limit, plans };
     vec![
-        family("tiny", generate::tiny, 2000, 1_000_000, 1000, 1000),
-        family("small", generate::small, 1500, 20_000, 400, 1000),
-        family("medium", generate::medium, 500, 3000, 150, 300),
-        family("ferry", generate::ferry, 400, 1000, 60, 100),
-        family("large ferry", generate::large_ferry, 80, 1000, 60, 100),
-        family("dense", generate::dense, 150, 600, 20, 100),
-        family("sparse", generate::sparse, 80, 400, 20, 100),
+        family("tiny", generate::tiny, [2000, 1500], 1_000_000, 1000, 1000),
+        family("small", generate::small, [1500, 500], 20_000, 400, 1000),
+        family("medium", generate::medium, [500, 100], 3000, 150, 300),
+        family("ferry", generate::ferry, [400, 60], 1000, 60, 100),
+        family("large ferry", generate::large_ferry, [80, 12], 1000, 60, 100),
+        family("dense", generate::dense, [150, 30], 600, 20, 100),
+        family("sparse", generate::sparse, [80, 10], 400, 20, 100),
     ]
 }
 
@@ -52,43 +58,54 @@ struct Totals {
 }
 
 pub fn run(report: &mut Report) {
-    println!("generated files:");
-    for (number, family) in families().iter().enumerate() {
-        let mut random = Random::new(1974 + number as u64);
-        let mut totals = Goal::BOTH.map(|goal| (goal, Totals::default()));
-        for _ in 0..family.files {
-            one_file(report, family, &mut random, &mut totals);
+    report.each_edition(|report, edition| {
+        println!("generated files, {edition}:");
+        for (seed, family) in (1974..).zip(&families()) {
+            one_family(report, family, edition, Random::new(seed));
         }
-        for (goal, Totals { stopped, unknown, nodes }) in totals {
-            let Family { name, files, .. } = family;
-            println!(
-                "  {name:<12} {goal:<12} {files:>5} files, {nodes:>6} nodes, {stopped} stopped, {unknown} too large for the second solver"
-            );
-        }
+    });
+}
+
+fn one_family(report: &mut Report, family: &Family, edition: Edition, mut random: Random) {
+    let files = edition.of(family.files);
+    let mut totals: Vec<(Goal, Totals)> = Goal::of(edition).iter().map(|&goal| (goal, Totals::default())).collect();
+    for _ in 0..files {
+        let made = (family.make)(&mut random);
+        one_file(report, family, &in_edition(&mut random, edition, made), &mut random, &mut totals);
+    }
+    for (goal, Totals { stopped, unknown, nodes }) in totals {
+        let name = family.name;
+        println!(
+            "  {name:<12} {goal:<12} {files:>5} files, {nodes:>6} nodes, {stopped} stopped, {unknown} too large for the second solver"
+        );
     }
 }
 
-fn one_file(report: &mut Report, family: &Family, random: &mut Random, totals: &mut [(Goal, Totals)]) {
-    let columns = (family.make)(random);
+fn one_file(report: &mut Report, family: &Family, columns: &Columns, random: &mut Random, totals: &mut [(Goal, Totals)]) {
     let file = columns.file();
-    file_and_lists(report, &columns, &file);
-    offered_lists(report, &columns, &file, random);
-    reductions(report, &columns, &file, family.plans);
+    file_and_lists(report, columns, &file);
+    offered_lists(report, columns, &file, random);
+    match columns.edition {
+        Edition::One => reductions(report, columns, &file, family.plans),
+        Edition::Two => editions::first_alone(report, &file, family.limit),
+    }
     for (goal, totals) in totals {
-        let case = Case { goal: *goal, columns: &columns, file: &file, requests: Requests::NONE };
+        let case = Case { goal: *goal, columns, file: &file, requests: Requests::NONE };
         let answer = searches(report, &case, family.limit, totals);
         limits::every(report, &case, &answer, family.every_limit);
         totals.nodes += answer.nodes as u64;
     }
 }
 
-/// Reads the file back, and writes it from what was read.
-fn file_and_lists(report: &mut Report, columns: &Columns, file: &[u8]) {
+/// Reads the file back, and writes it from what was read by the writer of its edition.
+pub fn file_and_lists(report: &mut Report, columns: &Columns, file: &[u8]) {
     let (n, t) = (columns.costs.len(), columns.entries());
     report.group("reader: answers and lists against (a)");
     let read = compare::read(report, file, [n + 2, n, t + 1]);
     report.group("writer: answers and buffers against (a), and the same bytes again");
+    report.same(&read.0.edition, &(columns.edition as u32), || hex(file));
     let lists = Lists {
+        edition: columns.edition,
         rows: read.0.rows as u16,
         costs: read.1.list()[..n].to_vec(),
         lengths: read.2.list()[..n].to_vec(),
@@ -128,7 +145,7 @@ fn reductions(report: &mut Report, columns: &Columns, file: &[u8], most_plans: u
     }
     report.group("floor plus reduced prices equals price, for plans of generated files");
     each_plan(columns, most_plans, |plan| {
-        let rest: u64 = plan.iter().map(|&column| reduced.list()[column as usize - 1] as u64).sum();
+        let rest: i64 = plan.iter().map(|&column| reduced.list()[column as usize - 1] as i64).sum();
         report.same(&(answer.bound + rest), &price(columns, plan, Goal::Sum), || format!("plan {plan:?}, {}", hex(file)));
     });
 }
@@ -143,5 +160,9 @@ fn searches(report: &mut Report, case: &Case, limit: u32, totals: &mut Totals) -
     report.group_of(case.goal, "search: best price, none and root floor against the second solver");
     totals.unknown += (least == Least::Unknown) as usize;
     prices::compare(report, &answer, least, || hex(case.file));
+    if case.columns.costs.len() <= MOST_COLUMNS {
+        report.group_of(case.goal, "search: the second solver's price against all choices of duties");
+        report.same(&least, &least_of_choices(case.columns, case.goal, case.requests), || hex(case.file));
+    }
     answer
 }

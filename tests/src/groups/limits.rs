@@ -1,6 +1,7 @@
 //! Node limits: every one from 1 to one above the tree's size, and those at and beyond 01's range.
 
 use spp_tests::answers::{Answer, STOPPED};
+use spp_tests::edition::Edition;
 use spp_tests::files::Columns;
 use spp_tests::goal::Goal;
 
@@ -51,14 +52,17 @@ fn some_of(report: &mut Report, case: &Case, answer: &Answer, limits: &[u32]) {
 fn all_pairs() -> Columns {
     let pairs = (1..=15u8).flat_map(|low| (low + 1..=15).map(move |high| vec![low, high]));
     let bodies: Vec<Vec<u8>> = pairs.collect();
-    Columns { rows: 15, costs: vec![1; bodies.len()], bodies }
+    Columns::new(15, vec![1; bodies.len()], bodies)
 }
 
 /// A tree that uses up the largest node limit.
 pub fn largest(report: &mut Report) {
-    let columns = all_pairs();
-    let file = columns.file();
-    for goal in Goal::BOTH {
+    report.each_edition(largest_of);
+}
+
+fn largest_of(report: &mut Report, edition: Edition) {
+    let file = all_pairs().under(edition).file();
+    for &goal in Goal::of(edition) {
         report.group_of(goal, GROUP);
         let answer = compare::search(report, goal, &file, 1_000_000, 15).0;
         report.same(&(answer.outcome, answer.nodes), &(STOPPED, 1_000_000), || "all pairs of 15 rows".into());

@@ -1,8 +1,10 @@
 //! The refusals of the lists of agreed and absent columns (02, P2), with stated numbers: a fault at each place of a list, both lists
 //! faulty, faults that striking the absent columns would remove (02, P9), and other faults beside them, which come first.
 
+use spp_tests::edition::Edition;
 use spp_tests::files::{self, columns, Columns};
 use spp_tests::generate;
+use spp_tests::generate_earning::in_edition;
 use spp_tests::goal::Goal;
 use spp_tests::random::Random;
 use spp_tests::requests::Requests;
@@ -16,19 +18,25 @@ const LIMIT: u32 = 20;
 
 const GROUP: &str = "lists: refusals 14 and 15, and those that come before them";
 
-pub fn some_files() -> Vec<Columns> {
+/// Files of an edition; of SPP2 the small ones alone.
+pub fn some_files(edition: Edition) -> Vec<Columns> {
     let mut random = Random::new(14);
     let mut files = vec![columns(1, &[(&[1], 5)]), columns(2, &[(&[1], 3)]), files::example_1(), files::example_4()];
     files.extend((0..6).map(|_| generate::small(&mut random)));
     files.push(generate::ferry_of(&mut random, 64, 255, 9, 10));
     files.push(generate::ferry_of(&mut random, 64, 256, 9, 10));
-    files
+    files.truncate(edition.of([files.len(), 7]));
+    files.into_iter().map(|columns| in_edition(&mut random, edition, columns)).collect()
 }
 
 pub fn run(report: &mut Report) {
-    for columns in some_files() {
+    report.each_edition(run_edition);
+}
+
+fn run_edition(report: &mut Report, edition: Edition) {
+    for columns in some_files(edition) {
         let file = columns.file();
-        for goal in Goal::BOTH {
+        for &goal in Goal::of(edition) {
             let case = Case { goal, columns: &columns, file: &file, requests: Requests::NONE };
             report.group_of(goal, GROUP);
             legal_lists(report, &case);

@@ -1,9 +1,11 @@
 //! Lists of agreed and absent columns (02, P2) for generated files: both searches against `plain`, against the second solver over the plans
 //! that hold every agreed column that is not absent and no absent one, and against all such plans where they are few. Half of the lists are
-//! drawn from a plan. Lists that overlap are among them; `overlaps` has more of these.
+//! drawn from a plan. Lists that overlap are among them; `overlaps` has more of these. Files of SPP2 are searched for the sum alone.
 
 use spp_tests::answers::{NONE, STOPPED};
+use spp_tests::edition::Edition;
 use spp_tests::files::Columns;
+use spp_tests::generate_earning::in_edition;
 use spp_tests::goal::Goal;
 use spp_tests::random::Random;
 use spp_tests::requests::Requests;
@@ -27,7 +29,8 @@ const MOST_ROWS: u16 = 30;
 struct Family {
     name: &'static str,
     make: fn(&mut Random) -> Columns,
-    files: usize,
+    /// Files of SPP1, and of SPP2.
+    files: [usize; 2],
     /// The node limit of the searches.
     limit: u32,
     /// Trees up to this size are searched with every node limit.
@@ -37,13 +40,13 @@ struct Family {
 fn families() -> Vec<Family> {
     let family = |name, make, files, limit, every_limit| Family { name, make, files, limit, every_limit };
     vec![
-        family("tiny", generate::tiny, 600, 1_000_000, 1000),
-        family("small", generate::small, 400, 20_000, 100),
-        family("medium", generate::medium, 120, 3000, 40),
-        family("ferry", generate::ferry, 60, 1000, 10),
-        family("large ferry", generate::large_ferry, 8, 500, 4),
-        family("dense", generate::dense, 40, 600, 6),
-        family("sparse", generate::sparse, 8, 300, 4),
+        family("tiny", generate::tiny, [600, 300], 1_000_000, 1000),
+        family("small", generate::small, [400, 100], 20_000, 100),
+        family("medium", generate::medium, [120, 16], 3000, 40),
+        family("ferry", generate::ferry, [60, 8], 1000, 10),
+        family("large ferry", generate::large_ferry, [8, 1], 500, 4),
+        family("dense", generate::dense, [40, 6], 600, 6),
+        family("sparse", generate::sparse, [8, 1], 300, 4),
     ]
 }
 
@@ -69,23 +72,27 @@ struct Lists {
 }
 
 pub fn run(report: &mut Report) {
-    println!("lists of agreed and absent duties:");
-    for (number, family) in families().iter().enumerate() {
-        let mut random = Random::new(2002 + number as u64);
-        let mut totals = Totals::default();
-        for _ in 0..family.files {
-            one_file(report, family, &mut random, &mut totals);
+    report.each_edition(|report, edition| {
+        println!("lists of agreed and absent duties, {edition}:");
+        for (seed, family) in (2002..).zip(&families()) {
+            one_family(report, family, edition, Random::new(seed));
         }
-        let Totals { best, none, stopped, unknown } = totals;
-        let Family { name, files, .. } = family;
-        println!(
-            "  {name:<12} {files:>5} files, {best:>5} best, {none:>5} none, {stopped} stopped, {unknown} too large for the second solver"
-        );
-    }
+    });
 }
 
-fn one_file(report: &mut Report, family: &Family, random: &mut Random, totals: &mut Totals) {
-    let columns = (family.make)(random);
+fn one_family(report: &mut Report, family: &Family, edition: Edition, mut random: Random) {
+    let (name, files, mut totals) = (family.name, edition.of(family.files), Totals::default());
+    for _ in 0..files {
+        let made = (family.make)(&mut random);
+        one_file(report, family, in_edition(&mut random, edition, made), &mut random, &mut totals);
+    }
+    let Totals { best, none, stopped, unknown } = totals;
+    println!(
+        "  {name:<12} {files:>5} files, {best:>5} best, {none:>5} none, {stopped} stopped, {unknown} too large for the second solver"
+    );
+}
+
+fn one_file(report: &mut Report, family: &Family, columns: Columns, random: &mut Random, totals: &mut Totals) {
     let file = columns.file();
     let plans = known_plans(&columns, &file, family.limit);
     let count = columns.costs.len() as u16;
@@ -96,7 +103,7 @@ fn one_file(report: &mut Report, family: &Family, random: &mut Random, totals: &
     }
     drawn.retain(|lists| !lists.agreed.is_empty() || !lists.absent.is_empty());
     for Lists { agreed, absent } in &drawn {
-        for goal in Goal::BOTH {
+        for &goal in Goal::of(columns.edition) {
             let case = Case { goal, columns: &columns, file: &file, requests: Requests { agreed, absent, pairs: &[] } };
             one_search(report, family, &case, &plans, totals);
         }
@@ -113,7 +120,8 @@ pub fn known_plans(columns: &Columns, file: &[u8], limit: u32) -> Plans {
         });
         return Plans { plans, are_all: count < MOST_PLANS };
     }
-    let tree = plain::tree(Goal::Longest, file, limit).expect("the file is accepted");
+    let goal = if columns.edition == Edition::One { Goal::Longest } else { Goal::Sum };
+    let tree = plain::tree(goal, file, limit).expect("the file is accepted");
     if tree.answer.has_plan == 1 {
         plans.push(tree.plan);
     }

@@ -3,8 +3,10 @@
 //! with the agreed list struck by hand. Each kind of overlap and each kind of answer must occur.
 
 use spp_tests::answers::{Answer, BEST, NONE};
+use spp_tests::edition::Edition;
 use spp_tests::files::Columns;
 use spp_tests::generate;
+use spp_tests::generate_earning::in_edition;
 use spp_tests::generate_overlaps::{any_lists, lists_of_plan, lists_with_pairs, Kind, Left, Overlap};
 use spp_tests::goal::Goal;
 use spp_tests::random::Random;
@@ -29,7 +31,8 @@ const SMALL_LIMITS: [u32; 3] = [1, 2, 6];
 /// A family of generated files.
 struct Family {
     make: fn(&mut Random) -> Columns,
-    files: usize,
+    /// Files of SPP1, and of SPP2.
+    files: [usize; 2],
     /// The node limit of the searches.
     limit: u32,
     /// Trees up to this size are searched with every node limit.
@@ -39,13 +42,13 @@ struct Family {
 fn families() -> Vec<Family> {
     let family = |make, files, limit, every_limit| Family { make, files, limit, every_limit };
     vec![
-        family(generate::tiny, 300, 1_000_000, 1000),
-        family(generate::small, 150, 20_000, 60),
-        family(generate::medium, 30, 1000, 20),
-        family(generate::ferry, 12, 400, 6),
-        family(generate::large_ferry, 2, 200, 4),
-        family(generate::dense, 6, 200, 4),
-        family(generate::sparse, 2, 150, 3),
+        family(generate::tiny, [300, 150], 1_000_000, 1000),
+        family(generate::small, [150, 50], 20_000, 60),
+        family(generate::medium, [30, 8], 1000, 20),
+        family(generate::ferry, [12, 3], 400, 6),
+        family(generate::large_ferry, [2, 1], 200, 4),
+        family(generate::dense, [6, 2], 200, 4),
+        family(generate::sparse, [2, 1], 150, 3),
     ]
 }
 
@@ -84,15 +87,22 @@ impl Answers {
 type Totals = [Answers; Kind::ALL.len()];
 
 pub fn run(report: &mut Report) {
-    println!("duties that are agreed and absent:");
+    report.each_edition(|report, edition| {
+        println!("duties that are agreed and absent, {edition}:");
+        one_edition(report, edition);
+    });
+}
+
+fn one_edition(report: &mut Report, edition: Edition) {
     let mut totals = [Totals::default(); 2];
-    for (number, family) in families().iter().enumerate() {
-        let mut random = Random::new(9009 + number as u64);
-        for _ in 0..family.files {
-            one_file(report, family, &mut random, &mut totals);
+    for (seed, family) in (9009..).zip(&families()) {
+        let mut random = Random::new(seed);
+        for _ in 0..edition.of(family.files) {
+            let made = (family.make)(&mut random);
+            one_file(report, family, in_edition(&mut random, edition, made), &mut random, &mut totals);
         }
     }
-    for (goal, totals) in Goal::BOTH.into_iter().zip(&totals) {
+    for (&goal, totals) in Goal::of(edition).iter().zip(&totals) {
         each_kind_is_met(report, goal, totals);
     }
 }
@@ -111,8 +121,7 @@ fn each_kind_is_met(report: &mut Report, goal: Goal, totals: &Totals) {
     }
 }
 
-fn one_file(report: &mut Report, family: &Family, random: &mut Random, totals: &mut [Totals; 2]) {
-    let columns = (family.make)(random);
+fn one_file(report: &mut Report, family: &Family, columns: Columns, random: &mut Random, totals: &mut [Totals; 2]) {
     let file = columns.file();
     let plans = known_plans(&columns, &file, family.limit);
     let mut drawn = any_lists(random, &columns);
@@ -120,7 +129,7 @@ fn one_file(report: &mut Report, family: &Family, random: &mut Random, totals: &
     let cheapest = plans.plans.iter().min_by_key(|plan| price(&columns, plan, Goal::Sum));
     drawn.extend(cheapest.map_or(Vec::new(), |plan| lists_of_plan(random, &columns, plan)));
     for overlap in &drawn {
-        for (goal, totals) in Goal::BOTH.into_iter().zip(totals.iter_mut()) {
+        for (&goal, totals) in Goal::of(columns.edition).iter().zip(totals.iter_mut()) {
             let Overlap { agreed, absent, pairs, .. } = overlap;
             let case = Case { goal, columns: &columns, file: &file, requests: Requests { agreed, absent, pairs } };
             one_overlap(report, family, &case, &plans, overlap, &mut totals[overlap.kind as usize]);

@@ -1,6 +1,7 @@
 //! The refusals of the pairs of columns (02, P8), with stated numbers: lists of lengths about the largest, a fault at each place of a
 //! list, other faults beside them, which come first, and beside columns that are agreed and absent (02, P9).
 
+use spp_tests::edition::Edition;
 use spp_tests::generate_pairs::MOST_PAIRS;
 use spp_tests::goal::Goal;
 use spp_tests::requests::Requests;
@@ -16,9 +17,13 @@ const LIMIT: u32 = 20;
 const GROUP: &str = "pairs: refusals 21 and 20, and those that come before them";
 
 pub fn run(report: &mut Report) {
-    for columns in some_files() {
+    report.each_edition(run_edition);
+}
+
+fn run_edition(report: &mut Report, edition: Edition) {
+    for columns in some_files(edition) {
         let file = columns.file();
-        for goal in Goal::BOTH {
+        for &goal in Goal::of(edition) {
             let case = Case { goal, columns: &columns, file: &file, requests: Requests::NONE };
             report.group_of(goal, GROUP);
             legal_lists(report, &case);

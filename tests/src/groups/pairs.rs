@@ -1,9 +1,11 @@
 //! Pairs of columns (02, P8) for generated files: both searches against `plain`, against the second solver over the plans that obey the
 //! pairs, against all such plans where they are few, and against all choices of columns where these are few. Some lists are drawn from a
-//! plan, so that it obeys them or does not.
+//! plan, so that it obeys them or does not. Files of SPP2 are searched for the sum alone.
 
 use spp_tests::answers::{Answer, NONE, STOPPED};
+use spp_tests::edition::Edition;
 use spp_tests::files::{self, Columns};
+use spp_tests::generate_earning::in_edition;
 use spp_tests::generate_pairs::{self as draw, MOST_PAIRS};
 use spp_tests::goal::Goal;
 use spp_tests::plain::Uses;
@@ -27,7 +29,8 @@ const MOST_COLUMNS: usize = 12;
 struct Family {
     name: &'static str,
     make: fn(&mut Random) -> Columns,
-    files: usize,
+    /// Files of SPP1, and of SPP2.
+    files: [usize; 2],
     /// The node limit of the searches.
     limit: u32,
     /// Trees up to this size are searched with every node limit.
@@ -37,13 +40,13 @@ struct Family {
 fn families() -> Vec<Family> {
     let family = |name, make, files, limit, every_limit| Family { name, make, files, limit, every_limit };
     vec![
-        family("tiny", generate::tiny, 600, 1_000_000, 1000),
-        family("small", generate::small, 250, 20_000, 100),
-        family("medium", generate::medium, 24, 2000, 20),
-        family("ferry", generate::ferry, 8, 400, 6),
-        family("large ferry", generate::large_ferry, 2, 300, 4),
-        family("dense", generate::dense, 4, 200, 3),
-        family("sparse", generate::sparse, 2, 150, 3),
+        family("tiny", generate::tiny, [600, 300], 1_000_000, 1000),
+        family("small", generate::small, [250, 80], 20_000, 100),
+        family("medium", generate::medium, [24, 6], 2000, 20),
+        family("ferry", generate::ferry, [8, 2], 400, 6),
+        family("large ferry", generate::large_ferry, [2, 1], 300, 4),
+        family("dense", generate::dense, [4, 1], 200, 3),
+        family("sparse", generate::sparse, [2, 1], 150, 3),
     ]
 }
 
@@ -73,29 +76,39 @@ fn unlisted(pairs: Vec<u16>) -> Lists {
 }
 
 pub fn run(report: &mut Report) {
-    println!("pairs of duties:");
+    report.each_edition(|report, edition| {
+        println!("pairs of duties, {edition}:");
+        one_edition(report, edition);
+    });
+}
+
+fn one_edition(report: &mut Report, edition: Edition) {
     let mut uses = [Uses::default(); 2];
     let mut changed = 0;
-    for (number, family) in families().iter().enumerate() {
-        let mut random = Random::new(8008 + number as u64);
-        let mut totals = Totals::default();
-        for _ in 0..family.files {
-            one_file(report, family, &(family.make)(&mut random), &mut random, &mut totals);
-        }
-        let Totals { lists, best, none, stopped, unknown, .. } = totals;
-        let Family { name, files, .. } = family;
-        print!("  {name:<12} {files:>5} files, {lists:>5} lists, {best:>5} best, {none:>5} none, {stopped} stopped, ");
-        println!("{unknown} too large for the second solver");
+    for (seed, family) in (8008..).zip(&families()) {
+        let totals = one_family(report, family, edition, Random::new(seed));
         uses.iter_mut().zip(totals.uses).for_each(|(all, some)| add(all, &some));
         changed += totals.changed;
     }
-    largest(report);
-    for (goal, uses) in Goal::BOTH.into_iter().zip(uses) {
+    largest(report, edition);
+    for (&goal, uses) in Goal::of(edition).iter().zip(uses) {
         each_case_is_met(report, goal, &uses);
     }
     println!("  {changed} answers differ in outcome or price from those without pairs");
     report.group("pairs: answers that differ from those without pairs occur");
     report.holds(changed > 0, || "no pair changes an answer".into());
+}
+
+fn one_family(report: &mut Report, family: &Family, edition: Edition, mut random: Random) -> Totals {
+    let (name, files, mut totals) = (family.name, edition.of(family.files), Totals::default());
+    for _ in 0..files {
+        let made = (family.make)(&mut random);
+        one_file(report, family, &in_edition(&mut random, edition, made), &mut random, &mut totals);
+    }
+    let Totals { lists, best, none, stopped, unknown, .. } = totals;
+    print!("  {name:<12} {files:>5} files, {lists:>5} lists, {best:>5} best, {none:>5} none, {stopped} stopped, ");
+    println!("{unknown} too large for the second solver");
+    totals
 }
 
 fn counts(uses: &Uses) -> [(&'static str, u64); 7] {
@@ -146,7 +159,7 @@ fn one_file(report: &mut Report, family: &Family, columns: &Columns, random: &mu
     let unpaired = Goal::BOTH.map(|goal| plain::search(goal, &file, family.limit, &mut [0; 64]));
     for lists in &drawn {
         totals.lists += 1;
-        for (goal, unpaired) in Goal::BOTH.into_iter().zip(&unpaired) {
+        for (&goal, unpaired) in Goal::of(columns.edition).iter().zip(&unpaired) {
             let requests = Requests { agreed: &lists.agreed, absent: &lists.absent, pairs: &lists.pairs };
             let case = Case { goal, columns, file: &file, requests };
             let answer = one_search(report, family, &case, &plans, totals);
@@ -260,17 +273,18 @@ fn one_search(report: &mut Report, family: &Family, case: &Case, plans: &Plans, 
 }
 
 /// 64 rows and 256 columns with 128 pairs: any, a ring, and a chain in both sequences. The last file has 4,096 entries.
-fn largest(report: &mut Report) {
+fn largest(report: &mut Report, edition: Edition) {
     let mut random = Random::new(128);
     let mut largest: Vec<Columns> = (0..6).map(|_| generate::large_ferry(&mut random)).collect();
     largest.push(files::largest());
-    for columns in &largest {
+    for columns in largest {
+        let columns = in_edition(&mut random, edition, columns);
         let file = columns.file();
         let [round, row] = [MOST_PAIRS, MOST_PAIRS + 1].map(|number| draw::different(&mut random, 256, number));
         let any = draw::any(&mut random, 256, MOST_PAIRS);
         for pairs in [any, draw::ring(&round), draw::chain(&row), draw::chain_backwards(&row)] {
-            for goal in Goal::BOTH {
-                let case = Case { goal, columns, file: &file, requests: Requests { pairs: &pairs, ..Requests::NONE } };
+            for &goal in Goal::of(edition) {
+                let case = Case { goal, columns: &columns, file: &file, requests: Requests { pairs: &pairs, ..Requests::NONE } };
                 most_pairs(report, &case);
             }
         }

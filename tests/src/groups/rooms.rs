@@ -1,14 +1,17 @@
-//! Lent lists too short by one, exact and longer; and the writer's refusals.
+//! Lent lists too short by one, exact and longer; and the writers' refusals.
 
+use spp_tests::edition::Edition;
 use spp_tests::files::{self, columns, Columns};
 use spp_tests::generate;
+use spp_tests::generate_earning::in_edition;
 use spp_tests::goal::Goal;
 use spp_tests::random::Random;
 
+use super::damaged::COSTS;
 use crate::compare::{self, Lists};
 use crate::report::{hex, Report};
 
-fn some_files() -> Vec<Columns> {
+fn some_files(edition: Edition) -> Vec<Columns> {
     let mut random = Random::new(3);
     let mut files = vec![
         columns(1, &[(&[1], 5)]),
@@ -21,7 +24,7 @@ fn some_files() -> Vec<Columns> {
     ];
     files.extend((0..30).map(|_| generate::small(&mut random)));
     files.extend((0..10).map(|_| generate::ferry(&mut random)));
-    files
+    files.into_iter().map(|columns| in_edition(&mut random, edition, columns)).collect()
 }
 
 /// Lengths about the one that is needed.
@@ -32,16 +35,19 @@ fn about(needed: usize) -> Vec<usize> {
 }
 
 pub fn run(report: &mut Report) {
-    for columns in some_files() {
-        let file = columns.file();
-        report.group("lists too short by one, exact and longer");
-        reader(report, &columns, &file);
-        others(report, &columns, &file);
-        report.group("writer: refusals");
-        writer(report, &columns, &file);
-    }
-    writer_faults(report);
-    offered_faults(report);
+    report.each_edition(|report, edition| {
+        for columns in some_files(edition) {
+            let file = columns.file();
+            report.group("lists too short by one, exact and longer");
+            reader(report, &columns, &file);
+            reducing(report, &columns, &file);
+            searches(report, &columns, &file);
+            report.group("writer: refusals");
+            writer(report, &columns, &file);
+        }
+        writer_faults(report, edition);
+        offered_faults(report, edition);
+    });
 }
 
 /// The refusal for a room: 10 where it is below what is needed.
@@ -65,16 +71,24 @@ fn reader(report: &mut Report, columns: &Columns, file: &[u8]) {
     }
 }
 
-fn others(report: &mut Report, columns: &Columns, file: &[u8]) {
+/// An SPP2 file comes before a short list.
+fn reducing(report: &mut Report, columns: &Columns, file: &[u8]) {
     let (n, m) = (columns.costs.len(), columns.rows as usize);
+    let wanted = |room, needed| columns.edition.of([refusal(room, needed), 1]);
     for room in about(n) {
         let found = compare::reduce(report, file, [room, m]).0;
-        report.same(&found.refusal, &refusal(room, n), || hex(file));
+        report.same(&found.refusal, &wanted(room, n), || hex(file));
     }
     for room in about(m) {
         let found = compare::reduce(report, file, [n, room]).0;
-        report.same(&found.refusal, &refusal(room, m), || hex(file));
-        for goal in Goal::BOTH {
+        report.same(&found.refusal, &wanted(room, m), || hex(file));
+    }
+}
+
+fn searches(report: &mut Report, columns: &Columns, file: &[u8]) {
+    let m = columns.rows as usize;
+    for room in about(m) {
+        for &goal in Goal::of(columns.edition) {
             let found = compare::search(report, goal, file, 500, room).0;
             report.same(&found.refusal, &refusal(room, m), || hex(file));
             // A short list comes before a node limit out of range.
@@ -84,8 +98,9 @@ fn others(report: &mut Report, columns: &Columns, file: &[u8]) {
     }
 }
 
-fn lists_of(columns: &Columns) -> Lists {
-    Lists { rows: columns.rows, costs: columns.costs.clone(), lengths: columns.lengths(), numbers: columns.numbers() }
+pub fn lists_of(columns: &Columns) -> Lists {
+    let Columns { edition, rows, ref costs, .. } = *columns;
+    Lists { edition, rows, costs: costs.clone(), lengths: columns.lengths(), numbers: columns.numbers() }
 }
 
 fn writer(report: &mut Report, columns: &Columns, file: &[u8]) {
@@ -100,11 +115,12 @@ fn writer(report: &mut Report, columns: &Columns, file: &[u8]) {
 }
 
 /// Random faults in the writer's lists, one to three at once.
-fn writer_faults(report: &mut Report) {
+fn writer_faults(report: &mut Report, edition: Edition) {
     report.group("writer: refusals");
     let mut random = Random::new(13);
-    for _ in 0..20_000 {
-        let columns = generate::small(&mut random);
+    for _ in 0..edition.of([20_000, 8000]) {
+        let made = generate::small(&mut random);
+        let columns = in_edition(&mut random, edition, made);
         let mut lists = lists_of(&columns);
         for _ in 0..random.within(1, 3) {
             writer_fault(&mut random, &mut lists);
@@ -116,7 +132,7 @@ fn writer_faults(report: &mut Report) {
     // 4,097 entries; 257 columns; none.
     for (count, length) in [(257, 1), (256, 17), (0, 1)] {
         let numbers = (0..count).flat_map(|_| 1..=length as u8).collect();
-        let lists = Lists { rows: 17, costs: vec![9; count], lengths: vec![length; count], numbers };
+        let lists = Lists { edition, rows: 17, costs: vec![9; count], lengths: vec![length; count], numbers };
         compare::write(report, &lists, 8000);
     }
 }
@@ -124,7 +140,7 @@ fn writer_faults(report: &mut Report) {
 fn writer_fault(random: &mut Random, lists: &mut Lists) {
     let column = random.within(0, lists.costs.len() - 1);
     match random.within(0, 10) {
-        0 => lists.costs[column] = [0, 1_000_000, 1_000_001, u32::MAX][random.within(0, 3)],
+        0 => lists.costs[column] = COSTS[random.within(0, COSTS.len() - 1)],
         1 if column < lists.lengths.len() => lists.lengths[column] = [0, 1, 65, 4096, 65_535][random.within(0, 4)],
         2 if column < lists.lengths.len() => lists.lengths[column] = lists.rows + random.within(0, 1) as u16,
         3 => lists.lengths.push(1),
@@ -141,9 +157,9 @@ fn writer_fault(random: &mut Random, lists: &mut Lists) {
 }
 
 /// Offered lists that are out of range or do not rise, with the stated refusal.
-fn offered_faults(report: &mut Report) {
+fn offered_faults(report: &mut Report, edition: Edition) {
     report.group("plan check: refusals");
-    let file = files::example_4().file();
+    let file = files::example_4().under(edition).file();
     let faulty: [&[u16]; 8] = [&[0], &[11], &[3, 3], &[6, 3, 9], &[3, 6, 9, 9], &[3, 6, 65_535], &[0, 3, 6, 9], &[256 + 3]];
     for offered in faulty {
         let found = compare::check(report, &file, offered);

@@ -1,6 +1,6 @@
 //! What the repository stores against what `spp_tests::stored` works out anew: the outputs of the gate's programs, the tables of the rules
 //! and the lines of the samples. In a difference, what is found is stored and what is wanted is worked out; the program `remake` prints it.
-//! The samples are searched for both goals besides.
+//! The samples are searched besides, for the goals whose search takes them.
 
 use spp_tests::files::{self, Columns};
 use spp_tests::goal::Goal;
@@ -116,7 +116,8 @@ fn sample_lines(report: &mut Report, list: &List) {
     }
 }
 
-/// A sample that stands in the gate's input under its name is the same there, and the examples are the paper's.
+/// A sample that stands in the gate's input under its name is the same there, the examples are the paper's, and mail.spp is harbour.spp with
+/// mail.
 fn sample_files(report: &mut Report, searches: &[Search]) {
     let mut in_gate = 0;
     for name in given(report, samples::names()).unwrap_or_default() {
@@ -131,16 +132,20 @@ fn sample_files(report: &mut Report, searches: &[Search]) {
         }
     }
     report.holds(in_gate > 0, || format!("{}: has no sample", search_files::INPUT));
+    if let Some((mail, file)) = given(report, samples::mail().and_then(|mail| Ok((mail, samples::file("mail.spp")?)))) {
+        report.same(&file, &mail.file(), || "samples/mail.spp and samples/harbour.spp with mail".into());
+    }
 }
 
-/// Each sample, searched for both goals.
+/// Each sample, searched for both goals; one of SPP2 has no price by the longest duty.
 fn sample_searches(report: &mut Report) {
     for name in given(report, samples::names()).unwrap_or_default() {
         let Some(file) = given(report, samples::file(&name)) else { continue };
         for goal in Goal::BOTH {
             report.group_of(goal, "samples: searches against (a) and the second solver");
             let answer = compare::search(report, goal, &file, SAMPLE_LIMIT, 64).0;
-            let least = input::columns(&file).map_or(Least::Unknown, |columns| least_price(&columns, goal, MOST_SETS));
+            let columns = input::columns(&file).filter(|columns| Goal::of(columns.edition).contains(&goal));
+            let least = columns.map_or(Least::Unknown, |columns| least_price(&columns, goal, MOST_SETS));
             prices::compare(report, &answer, least, || format!("samples/{name}"));
         }
     }

@@ -55,8 +55,8 @@ fn of_entries(rows: usize, count: usize, entries: usize) -> Columns {
         body.sort_unstable();
         body
     };
-    let costs = (0..count as u32).map(|column| 1 + column * 37 % 101).collect();
-    Columns { rows: rows as u16, costs, bodies: (0..count).map(body).collect() }
+    let costs = (0..count as i32).map(|column| 1 + column * 37 % 101).collect();
+    Columns::new(rows as u16, costs, (0..count).map(body).collect())
 }
 
 /// Numbers of columns about 192 and up to 256, on one row, on two and on 64.
@@ -161,8 +161,8 @@ fn damaged_beside_others(report: &mut Report) {
     }
 }
 
-/// The refusal is the reader's by (a), or 10 where it accepts the file.
+/// The refusal is that of (a)'s reducing with room for any file, which takes SPP1 alone too, or 10 where it accepts the file.
 fn short_and_bad_limit(report: &mut Report, file: &[u8]) {
-    let of_file = plain::read(file, &mut [0; 256], &mut [0; 256], &mut [0; 4096]).refusal;
+    let of_file = plain::reduce(file, &mut [0; 256], &mut [0; 64]).refusal;
     file_refuses(report, file, 0, 0, if of_file > 0 { of_file } else { 10 });
 }

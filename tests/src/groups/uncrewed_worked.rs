@@ -2,6 +2,7 @@
 //! trials on a thread with a stack of 2 MiB.
 
 use spp_tests::answers::{Uncrewed, NO_CREW, PLAN_EXISTS, STOPPED};
+use spp_tests::edition::Edition;
 use spp_tests::files::{self, columns, Columns};
 use spp_tests::generate_uncrewed::MOST_COLUMNS;
 use spp_tests::stored::{input, samples};
@@ -45,21 +46,21 @@ fn stopped(name: &'static str, columns: Columns, limit: u32, row: u32) -> Case {
 
 /// A column for each row up to `last` of 64.
 fn single_rows(last: u8) -> Columns {
-    Columns { rows: 64, costs: vec![3; last as usize], bodies: (1..=last).map(|row| vec![row]).collect() }
+    Columns::new(64, vec![3; last as usize], (1..=last).map(|row| vec![row]).collect())
 }
 
 /// One column of rows 1 to `last` of 64.
 fn one_long(last: u8) -> Columns {
-    Columns { rows: 64, costs: vec![9], bodies: vec![(1..=last).collect()] }
+    Columns::new(64, vec![9], vec![(1..=last).collect()])
 }
 
 /// 192 columns of the one row.
 fn many_copies() -> Columns {
-    Columns { rows: 1, costs: (1..=192).rev().collect(), bodies: vec![vec![1]; 192] }
+    Columns::new(1, (1..=192).rev().collect(), vec![vec![1]; 192])
 }
 
 /// Row 2 has no column; row 3 has column 2 at this cost and a dear one. In trial 1 an extra column covers row 3 at cost 1.
-fn beside_extra(cost: u32) -> Columns {
+fn beside_extra(cost: i32) -> Columns {
     columns(3, &[(&[1], 5), (&[3], cost), (&[3], 9)])
 }
 
@@ -134,19 +135,20 @@ pub fn run(report: &mut Report) {
     samples(report);
 }
 
-/// Each sample; 18 for those of too many columns.
+/// Each sample; 1 for those of SPP2, 18 for those of too many columns.
 fn samples(report: &mut Report) {
     let names = samples::names().unwrap_or_default();
     report.holds(!names.is_empty(), || "there are samples".into());
     for name in names {
         let file = samples::file(&name).unwrap_or_default();
         let columns = input::columns(&file);
-        match columns.filter(|columns| columns.costs.len() <= MOST_COLUMNS) {
+        let refusal = if columns.as_ref().is_some_and(|columns| columns.edition == Edition::Two) { 1 } else { 18 };
+        match columns.filter(|columns| columns.edition == Edition::One && columns.costs.len() <= MOST_COLUMNS) {
             Some(columns) => drop(File::new(&columns).accepted(report, SAMPLE_LIMIT, 64)),
             None => {
-                report.group("sailings that can't be crewed: samples of more than 192 duties");
+                report.group("sailings that can't be crewed: samples of SPP2 and of more than 192 duties");
                 let found = compare::uncrewed(report, &file, SAMPLE_LIMIT, 64).0;
-                report.same(&found.refusal, &18, || format!("samples/{name}"));
+                report.same(&found.refusal, &refusal, || format!("samples/{name}"));
             }
         }
     }

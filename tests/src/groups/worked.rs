@@ -14,7 +14,7 @@ use crate::report::Report;
 
 pub const LIMIT: u32 = 1_000_000;
 
-pub fn best(price: u64, bound: u64, nodes: u32, columns: u32) -> Answer {
+pub fn best(price: i64, bound: i64, nodes: u32, columns: u32) -> Answer {
     Answer { refusal: 0, outcome: BEST, has_plan: 1, columns, nodes, price, bound }
 }
 
@@ -22,11 +22,11 @@ pub fn none(nodes: u32) -> Answer {
     Answer { outcome: NONE, nodes, ..Answer::default() }
 }
 
-pub fn stopped(bound: u64, nodes: u32) -> Answer {
+pub fn stopped(bound: i64, nodes: u32) -> Answer {
     Answer { outcome: STOPPED, nodes, bound, ..Answer::default() }
 }
 
-pub fn stopped_with(price: u64, bound: u64, nodes: u32, columns: u32) -> Answer {
+pub fn stopped_with(price: i64, bound: i64, nodes: u32, columns: u32) -> Answer {
     Answer { outcome: STOPPED, has_plan: 1, columns, price, ..stopped(bound, nodes) }
 }
 
@@ -125,15 +125,15 @@ fn longest_searches() -> Vec<Search> {
 struct Reduction {
     name: &'static str,
     columns: Columns,
-    bound: u64,
+    bound: i64,
     order: &'static [u8],
-    reduced: &'static [u32],
+    reduced: &'static [i32],
 }
 
 fn reductions() -> Vec<Reduction> {
     let case = |name, columns, bound, order, reduced| Reduction { name, columns, bound, order, reduced };
-    let second: &[u32] = &[0, 0, 0, 1, 0, 22, 15, 18, 0, 27, 27, 10];
-    let third: &[u32] = &[1, 0, 0, 0, 0, 2, 5, 0, 6, 2, 8, 8, 13, 8, 6, 16, 13, 16, 19, 20];
+    let second: &[i32] = &[0, 0, 0, 1, 0, 22, 15, 18, 0, 27, 27, 10];
+    let third: &[i32] = &[1, 0, 0, 0, 0, 2, 5, 0, 6, 2, 8, 8, 13, 8, 6, 16, 13, 16, 19, 20];
     vec![
         case("example 1", files::example_1(), 17, &[1, 4, 2, 5], &[0, 1, 0, 0, 5, 1, 0, 3]),
         case("example 2", files::example_2(), 103, &[1, 4, 6, 5], second),
@@ -144,7 +144,7 @@ fn reductions() -> Vec<Reduction> {
 
 /// One column of all rows, cost 1.
 fn one_column(rows: u16) -> Columns {
-    Columns { rows, costs: vec![1], bodies: vec![(1..=rows as u8).collect()] }
+    Columns::new(rows, vec![1], vec![(1..=rows as u8).collect()])
 }
 
 /// 256 columns of the rows 1 to 16; the last one has row 17 too if `one_more`.
@@ -153,12 +153,12 @@ fn most_entries(one_more: bool) -> Columns {
     if one_more {
         bodies[255].push(17);
     }
-    Columns { rows: 17, costs: vec![1; 256], bodies }
+    Columns::new(17, vec![1; 256], bodies)
 }
 
 /// Files at the limits, with the reader's stated refusal.
 fn limits() -> Vec<(&'static str, Columns, u32)> {
-    let many = |count| Columns { rows: 1, costs: vec![1; count], bodies: vec![vec![1]; count] };
+    let many = |count| Columns::new(1, vec![1; count], vec![vec![1]; count]);
     vec![
         ("price 1,000,000", columns(1, &[(&[1], 1_000_000)]), 0),
         ("price 1,000,001", columns(1, &[(&[1], 1_000_001)]), 4),
@@ -210,7 +210,7 @@ fn program_example(report: &mut Report) {
     let file = [0x53, 0x50, 0x50, 0x31, 1, 0, 1, 0, 5, 0, 0, 0, 0x10, 0, 1, 0, 1];
     let (mut costs, mut lengths, mut numbers, mut plan) = ([0; 1], [0; 1], [0; 1], [0; 1]);
     let shape = engine::read(&file, &mut costs, &mut lengths, &mut numbers);
-    report.same(&shape, &Shape { refusal: 0, rows: 1, columns: 1, entries: 1 }, || "the program's file".into());
+    report.same(&shape, &Shape { refusal: 0, rows: 1, columns: 1, entries: 1, edition: 1 }, || "the program's file".into());
     report.same(&(costs, lengths, numbers), &([5], [1], [1]), || "the program's file".into());
     let answer = engine::search(Goal::Sum, &file, LIMIT, &mut plan);
     report.same(&(answer, plan), &(best(5, 5, 1, 1), [1]), || "the program's file".into());

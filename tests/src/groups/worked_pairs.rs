@@ -163,13 +163,13 @@ fn lasting(numbers: impl Iterator<Item = u16>) -> Numbers {
 /// Two columns for each of 64 rows, the odd ones at 1 and the even ones at 3.
 fn two_for_each_row() -> Columns {
     let bodies = (0..128).map(|column| vec![column / 2 + 1]).collect();
-    Columns { rows: 64, costs: [1, 3].repeat(64), bodies }
+    Columns::new(64, [1, 3].repeat(64), bodies)
 }
 
 /// Four columns for each of 64 rows, columns 1 to 128 at 1 and the others at 2.
 fn four_for_each_row() -> Columns {
     let bodies = (0..256).map(|column| vec![(column % 64) as u8 + 1]).collect();
-    Columns { rows: 64, costs: (0..256).map(|column| 1 + column / 128).collect(), bodies }
+    Columns::new(64, (0..256).map(|column| 1 + column / 128).collect(), bodies)
 }
 
 /// Roots at which each repetition does one step of a chain, and which are plans then.

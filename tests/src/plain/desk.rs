@@ -10,7 +10,7 @@ struct Change {
     way: Way,
     column: usize,
     rows: Vec<u8>,
-    cost: u32,
+    cost: i32,
 }
 
 impl Change {
@@ -118,7 +118,7 @@ pub fn counted(file: &[u8], columns: &[u16]) -> Result<Desk, u32> {
     let mut desk = Desk { marks: [0; MOST_COLUMNS], covered: [0; MOST_ROWS], off: 0, total: 0 };
     for &column in columns {
         desk.marks[column as usize - 1] = 1;
-        desk.total += duties.costs[column as usize - 1] as i32;
+        desk.total += duties.costs[column as usize - 1];
         rows_of(&duties, column as usize).iter().for_each(|&row| desk.covered[row as usize - 1] += 1);
     }
     desk.off = desk.covered[..duties.rows].iter().filter(|&&times| times != 1).count() as u32;

@@ -1,16 +1,23 @@
 //! The duty file: reading it, writing it, and checking an offered plan.
 
+use std::ops::RangeInclusive;
+
 use crate::answers::{Checked, Shape, Written};
+use crate::edition::Edition;
 
 const MOST_ROWS: usize = 64;
 const MOST_COLUMNS: usize = 256;
 pub(super) const MOST_ENTRIES: usize = 4096;
-const MOST_COST: u32 = 1_000_000;
+const MOST_COST: i32 = 1_000_000;
+
+/// What the sum search adds to a cost for each row (02, P10).
+const ADDED: i64 = 1_000_000;
 
 /// The contents of an accepted file.
 pub struct Duties {
+    pub edition: Edition,
     pub rows: usize,
-    pub costs: Vec<u32>,
+    pub costs: Vec<i32>,
     pub lengths: Vec<u16>,
     pub numbers: Vec<u8>,
 }
@@ -19,14 +26,28 @@ impl Duties {
     pub fn columns(&self) -> usize {
         self.costs.len()
     }
+
+    /// What is added to the cost of a column of so many rows, and so to the price of columns that cover so many, each once.
+    pub fn added(&self, rows: usize) -> i64 {
+        match self.edition {
+            Edition::One => 0,
+            Edition::Two => ADDED * rows as i64,
+        }
+    }
+
+    /// The costs that a search works on.
+    pub fn raised_costs(&self) -> Vec<u32> {
+        let raised = |(&cost, &length): (&i32, &u16)| (cost as i64 + self.added(length as usize)) as u32;
+        self.costs.iter().zip(&self.lengths).map(raised).collect()
+    }
 }
 
 fn two_bytes(file: &[u8], at: usize) -> usize {
     u16::from_le_bytes([file[at], file[at + 1]]) as usize
 }
 
-fn four_bytes(file: &[u8], at: usize) -> u32 {
-    u32::from_le_bytes([file[at], file[at + 1], file[at + 2], file[at + 3]])
+fn four_bytes(file: &[u8], at: usize) -> i32 {
+    i32::from_le_bytes([file[at], file[at + 1], file[at + 2], file[at + 3]])
 }
 
 /// Whether the numbers rise and lie in 1 to `most`.
@@ -41,11 +62,30 @@ pub fn rising(numbers: impl Iterator<Item = usize>, most: usize) -> bool {
     true
 }
 
+/// The edition of a file that is long enough and begins with its bytes.
+fn edition_of(file: &[u8]) -> Option<Edition> {
+    Edition::BOTH.into_iter().find(|edition| file.len() >= 8 && &file[0..4] == edition.mark())
+}
+
+/// The costs that a file of an edition may have.
+fn costs_of(edition: Edition) -> RangeInclusive<i32> {
+    match edition {
+        Edition::One => 1..=MOST_COST,
+        Edition::Two => -MOST_COST..=MOST_COST,
+    }
+}
+
+/// Reads an SPP1 file; any other has refusal 1, before all other faults.
+pub fn parse_first(file: &[u8]) -> Result<Duties, u32> {
+    match edition_of(file) {
+        Some(Edition::One) => parse(file),
+        _ => Err(1),
+    }
+}
+
 /// Reads a file, or gives the refusal that 01's sequence of tests comes to.
 pub fn parse(file: &[u8]) -> Result<Duties, u32> {
-    if file.len() < 8 || &file[0..4] != b"SPP1" {
-        return Err(1);
-    }
+    let edition = edition_of(file).ok_or(1u32)?;
     let (rows, columns) = (two_bytes(file, 4), two_bytes(file, 6));
     if !(1..=MOST_ROWS).contains(&rows) || !(1..=MOST_COLUMNS).contains(&columns) {
         return Err(2);
@@ -54,13 +94,13 @@ pub fn parse(file: &[u8]) -> Result<Duties, u32> {
     if file.len() < first_body {
         return Err(3);
     }
-    let mut duties =
-        Duties { rows, costs: Vec::with_capacity(columns), lengths: Vec::with_capacity(columns), numbers: Vec::new() };
+    let (costs, lengths) = (Vec::with_capacity(columns), Vec::with_capacity(columns));
+    let mut duties = Duties { edition, rows, costs, lengths, numbers: Vec::new() };
     let mut entries = 0;
     for column in 0..columns {
         let at = 8 + 8 * column;
         let (cost, start, length) = (four_bytes(file, at), two_bytes(file, at + 4), two_bytes(file, at + 6));
-        if !(1..=MOST_COST).contains(&cost) {
+        if !costs_of(edition).contains(&cost) {
             return Err(4);
         }
         if !(1..=rows).contains(&length) {
@@ -101,7 +141,7 @@ fn bodies_rise(lengths: &[u16], numbers: &[u8], rows: usize) -> bool {
 }
 
 /// The reader.
-pub fn read(file: &[u8], costs: &mut [u32], lengths: &mut [u16], numbers: &mut [u8]) -> Shape {
+pub fn read(file: &[u8], costs: &mut [i32], lengths: &mut [u16], numbers: &mut [u8]) -> Shape {
     let duties = match parse(file) {
         Ok(duties) => duties,
         Err(refusal) => return Shape { refusal, ..Shape::default() },
@@ -113,11 +153,12 @@ pub fn read(file: &[u8], costs: &mut [u32], lengths: &mut [u16], numbers: &mut [
     costs[..columns].copy_from_slice(&duties.costs);
     lengths[..columns].copy_from_slice(&duties.lengths);
     numbers[..entries].copy_from_slice(&duties.numbers);
-    Shape { refusal: 0, rows: duties.rows as u32, columns: columns as u32, entries: entries as u32 }
+    let (rows, edition) = (duties.rows as u32, duties.edition as u32);
+    Shape { refusal: 0, rows, columns: columns as u32, entries: entries as u32, edition }
 }
 
-/// The writer's refusal by 01's sequence of tests, 0 if there is none.
-fn writing_refusal(rows: usize, costs: &[u32], lengths: &[u16], numbers: &[u8], room: usize) -> u32 {
+/// A writer's refusal by 01's sequence of tests, 0 if there is none.
+fn writing_refusal(edition: Edition, rows: usize, costs: &[i32], lengths: &[u16], numbers: &[u8], room: usize) -> u32 {
     let columns = costs.len();
     if !(1..=MOST_ROWS).contains(&rows) || !(1..=MOST_COLUMNS).contains(&columns) {
         return 2;
@@ -128,7 +169,7 @@ fn writing_refusal(rows: usize, costs: &[u32], lengths: &[u16], numbers: &[u8], 
     let mut entries = 0;
     for column in 0..columns {
         let length = lengths[column] as usize;
-        if !(1..=MOST_COST).contains(&costs[column]) {
+        if !costs_of(edition).contains(&costs[column]) {
             return 4;
         }
         if !(1..=rows).contains(&length) {
@@ -151,14 +192,14 @@ fn writing_refusal(rows: usize, costs: &[u32], lengths: &[u16], numbers: &[u8], 
     0
 }
 
-/// The writer.
-pub fn write(rows: u16, costs: &[u32], lengths: &[u16], numbers: &[u8], out: &mut [u8]) -> Written {
-    let refusal = writing_refusal(rows as usize, costs, lengths, numbers, out.len());
+/// The writer of an edition.
+pub fn write(edition: Edition, rows: u16, costs: &[i32], lengths: &[u16], numbers: &[u8], out: &mut [u8]) -> Written {
+    let refusal = writing_refusal(edition, rows as usize, costs, lengths, numbers, out.len());
     if refusal != 0 {
         return Written { refusal, length: 0 };
     }
     let columns = costs.len();
-    out[0..4].copy_from_slice(b"SPP1");
+    out[0..4].copy_from_slice(edition.mark());
     out[4..6].copy_from_slice(&rows.to_le_bytes());
     out[6..8].copy_from_slice(&(columns as u16).to_le_bytes());
     let mut start = 8 + 8 * columns;
@@ -188,7 +229,7 @@ pub fn check(file: &[u8], offered: &[u16]) -> Checked {
     for column in 0..duties.columns() {
         let end = start + duties.lengths[column] as usize;
         if offered.contains(&(column as u16 + 1)) {
-            price += duties.costs[column] as u64;
+            price += duties.costs[column] as i64;
             for &row in &duties.numbers[start..end] {
                 covered[row as usize - 1] += 1;
             }

@@ -1,10 +1,19 @@
-//! What differs by the goal: a node's lower bound with one more column taken, and reducing.
+//! What differs by the goal: the files that are taken, a node's lower bound with one more column taken, and reducing.
 
+use super::file::{parse, parse_first, Duties};
 use super::matrix::Matrix;
 use super::node::{Node, FREE};
 use crate::goal::Goal;
 
 impl Goal {
+    /// Reads a file: of either edition for the sum, of SPP1 for the longest duty.
+    pub(super) fn parse(self, file: &[u8]) -> Result<Duties, u32> {
+        match self {
+            Goal::Sum => parse(file),
+            Goal::Longest => parse_first(file),
+        }
+    }
+
     /// The bound (01: floor) of a node with a free column taken.
     pub(super) fn bound_with(self, matrix: &Matrix, node: &Node, column: usize) -> u64 {
         match self {

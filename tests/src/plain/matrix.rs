@@ -1,4 +1,5 @@
-//! The matrix by columns and by rows, and the costs in the file. Rows and columns count from 0 here.
+//! The matrix by columns and by rows, and the costs that a search works on, which for SPP1 are those in the file. Rows and columns count
+//! from 0 here.
 
 use super::file::Duties;
 
@@ -30,7 +31,7 @@ impl Matrix {
         }
         Matrix {
             rows: duties.rows,
-            costs: duties.costs.clone(),
+            costs: duties.raised_costs(),
             column_starts,
             column_rows: duties.numbers.iter().map(|row| row - 1).collect(),
             row_starts,

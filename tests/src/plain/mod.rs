@@ -1,4 +1,4 @@
-//! The rules of 01 and of 02, P1, P2 and P5 to P9 in plain code: the same calls as the static library, on slices, and for P7
+//! The rules of 01 and of 02, P1, P2 and P5 to P10 in plain code: the same calls as the static library, on slices, and for P7
 //! a desk of its own.
 
 mod assign;

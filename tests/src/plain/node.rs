@@ -1,6 +1,5 @@
 //! A node of the tree, and forcing.
 
-use super::file::Duties;
 use super::matrix::Matrix;
 use crate::goal::Goal;
 
@@ -30,12 +29,12 @@ pub enum Forced {
 }
 
 impl Node {
-    /// All rows open, all columns free at their costs in the file, bound 0.
-    pub fn root(duties: &Duties) -> Node {
+    /// All rows open, all columns free at their costs, bound 0.
+    pub fn root(matrix: &Matrix) -> Node {
         let mut node = Node { costs: [0; 256], marks: [OUT; 256], open: [false; 64], bound: 0 };
-        node.open[..duties.rows].fill(true);
-        node.marks[..duties.columns()].fill(FREE);
-        node.costs[..duties.columns()].copy_from_slice(&duties.costs);
+        node.open[..matrix.rows].fill(true);
+        node.marks[..matrix.costs.len()].fill(FREE);
+        node.costs[..matrix.costs.len()].copy_from_slice(&matrix.costs);
         node
     }
 

@@ -1,6 +1,6 @@
 //! Reducing: the candidates, the five criteria, and the public call.
 
-use super::file::parse;
+use super::file::parse_first;
 use super::matrix::Matrix;
 use super::node::{Node, FREE};
 use crate::answers::Reduced;
@@ -61,8 +61,8 @@ impl Node {
 }
 
 /// The reducing call.
-pub fn reduce(file: &[u8], reduced: &mut [u32], order: &mut [u8]) -> Reduced {
-    let duties = match parse(file) {
+pub fn reduce(file: &[u8], reduced: &mut [i32], order: &mut [u8]) -> Reduced {
+    let duties = match parse_first(file) {
         Ok(duties) => duties,
         Err(refusal) => return Reduced { refusal, ..Reduced::default() },
     };
@@ -71,12 +71,12 @@ pub fn reduce(file: &[u8], reduced: &mut [u32], order: &mut [u8]) -> Reduced {
         return Reduced { refusal: 10, ..Reduced::default() };
     }
     let matrix = Matrix::new(&duties);
-    let mut node = Node::root(&duties);
+    let mut node = Node::root(&matrix);
     let mut used = 0;
     node.reduce(&matrix, |row| {
         order[used] = row as u8 + 1;
         used += 1;
     });
-    reduced[..columns].copy_from_slice(&node.costs[..columns]);
-    Reduced { refusal: 0, used: used as u32, bound: node.bound }
+    reduced.iter_mut().zip(&node.costs[..columns]).for_each(|(place, &cost)| *place = cost as i32);
+    Reduced { refusal: 0, used: used as u32, bound: node.bound as i64 }
 }

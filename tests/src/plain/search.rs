@@ -2,7 +2,7 @@
 
 use std::cmp::Reverse;
 
-use super::file::{parse, Duties};
+use super::file::Duties;
 use super::matrix::Matrix;
 use super::node::{Forced, Node, FREE, OUT};
 use super::pairs::Uses;
@@ -13,7 +13,7 @@ use crate::requests::Requests;
 
 pub(super) const MOST_NODES: u32 = 1_000_000;
 
-/// Stands for a penalty larger than any number; costs are at most 1,000,000.
+/// Stands for a penalty larger than any number; costs are at most 65,000,000.
 const ABOVE_ANY: u32 = u32::MAX;
 
 /// 01's criteria for the row in turn, the smallest first: free columns at cost 0, the largest penalty, free columns, the row.
@@ -151,7 +151,8 @@ impl Walk<'_> {
         self.enter(node);
     }
 
-    fn answer(&self) -> Answer {
+    /// The answer, with what was added for the rows of a plan taken off its price and the root's bound.
+    fn answer(&self, added: i64) -> Answer {
         let mut answer = Answer { nodes: self.nodes, ..Answer::default() };
         answer.outcome = match self.kept {
             _ if self.stopped => STOPPED,
@@ -159,11 +160,11 @@ impl Walk<'_> {
             None => NONE,
         };
         if answer.outcome != NONE {
-            answer.bound = self.root_bound;
+            answer.bound = self.root_bound as i64 - added;
         }
         if let Some((price, node)) = &self.kept {
             answer.has_plan = 1;
-            answer.price = *price;
+            answer.price = *price as i64 - added;
             answer.columns = node.taken().len() as u32;
         }
         answer
@@ -185,9 +186,9 @@ pub(super) fn walk(duties: &Duties, goal: Goal, requests: Requests, limit: u32) 
     let matrix = &Matrix::new(duties);
     let (nodes, stopped, root_bound, kept, depth, deepest, uses) = (0, false, 0, None, 0, 0, Uses::default());
     let mut walk = Walk { matrix, goal, requests, limit, nodes, stopped, root_bound, kept, depth, deepest, uses };
-    walk.enter(Node::root(duties));
+    walk.enter(Node::root(matrix));
     let plan = walk.kept.as_ref().map_or(Vec::new(), |(_, node)| node.taken());
-    Tree { answer: walk.answer(), plan, deepest: walk.deepest, uses: walk.uses }
+    Tree { answer: walk.answer(duties.added(duties.rows)), plan, deepest: walk.deepest, uses: walk.uses }
 }
 
 /// Walks the tree of an accepted file with a node limit in range.
@@ -197,7 +198,7 @@ pub fn tree(goal: Goal, file: &[u8], limit: u32) -> Result<Tree, u32> {
 
 /// The same with lists that are accepted.
 pub fn tree_with(goal: Goal, file: &[u8], limit: u32, requests: Requests) -> Result<Tree, u32> {
-    parse(file).map(|duties| walk(&duties, goal, requests, limit))
+    goal.parse(file).map(|duties| walk(&duties, goal, requests, limit))
 }
 
 /// The search without lists.
@@ -208,7 +209,7 @@ pub fn search(goal: Goal, file: &[u8], limit: u32, plan: &mut [u16]) -> Answer {
 /// The search with lists.
 pub fn search_with(goal: Goal, file: &[u8], limit: u32, requests: Requests, plan: &mut [u16]) -> Answer {
     let refused = |refusal| Answer { refusal, ..Answer::default() };
-    let duties = match parse(file) {
+    let duties = match goal.parse(file) {
         Ok(duties) => duties,
         Err(refusal) => return refused(refusal),
     };

@@ -1,6 +1,6 @@
 //! Which sailings can't be crewed (02, P6), by trials.
 
-use super::file::{parse, Duties, MOST_ENTRIES};
+use super::file::{parse_first, Duties, MOST_ENTRIES};
 use super::search::{walk, Tree, MOST_NODES};
 use crate::answers::{Uncrewed, NONE, NO_CREW, PLAN_EXISTS, STOPPED};
 use crate::goal::Goal;
@@ -11,8 +11,8 @@ const MOST_TRIAL_COLUMNS: usize = 192;
 
 /// The columns of the file, and behind them one of cost 1 for each row above `row`, rising.
 fn with_extra(duties: &Duties, row: usize) -> Duties {
-    let Duties { rows, ref costs, ref lengths, ref numbers } = *duties;
-    let mut trial = Duties { rows, costs: costs.clone(), lengths: lengths.clone(), numbers: numbers.clone() };
+    let Duties { edition, rows, ref costs, ref lengths, ref numbers } = *duties;
+    let mut trial = Duties { edition, rows, costs: costs.clone(), lengths: lengths.clone(), numbers: numbers.clone() };
     for above in row + 1..=rows {
         trial.costs.push(1);
         trial.lengths.push(1);
@@ -28,7 +28,7 @@ fn tried(duties: &Duties, row: usize, limit: u32) -> Tree {
 
 /// The trial of a row of an accepted file, with a node limit in range.
 pub fn trial(file: &[u8], row: usize, limit: u32) -> Result<Tree, u32> {
-    parse(file).map(|duties| tried(&duties, row, limit))
+    parse_first(file).map(|duties| tried(&duties, row, limit))
 }
 
 /// The refusal of an accepted file, 0 for none. Trial 1 has the most extra columns, one for each row but the first.
@@ -69,7 +69,7 @@ fn trials(duties: &Duties, limit: u32) -> (Uncrewed, Vec<u16>) {
 /// The call.
 pub fn uncrewed(file: &[u8], limit: u32, shown: &mut [u16]) -> Uncrewed {
     let refused = |refusal| Uncrewed { refusal, ..Uncrewed::default() };
-    let duties = match parse(file) {
+    let duties = match parse_first(file) {
         Ok(duties) => duties,
         Err(refusal) => return refused(refusal),
     };

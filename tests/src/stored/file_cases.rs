@@ -3,6 +3,7 @@
 
 use super::input::{self, Line};
 use super::line::fields;
+use crate::edition::Edition;
 use crate::files::columns;
 use crate::plain;
 
@@ -15,17 +16,17 @@ fn refused(number: u32) -> String {
     format!(" refused {number}")
 }
 
-/// Reads a file of the input, and writes back what it holds.
+/// Reads a file of the input, and writes back what it holds by the writer of its edition.
 fn read_and_written(line: &Line) -> String {
     let (mut costs, mut lengths, mut numbers) = ([0; 256], [0; 256], [0; 4096]);
     let shape = plain::read(&line.file, &mut costs, &mut lengths, &mut numbers);
     let name = line.words.concat();
-    if shape.refusal != 0 {
+    let Some(edition) = Edition::numbered(shape.edition) else {
         return format!("{name}{}\n", refused(shape.refusal));
-    }
+    };
     let (n, t) = (shape.columns as usize, shape.entries as usize);
     let mut out = [0; 6152];
-    let written = plain::write(shape.rows as u16, &costs[..n], &lengths[..n], &numbers[..t], &mut out);
+    let written = plain::write(edition, shape.rows as u16, &costs[..n], &lengths[..n], &numbers[..t], &mut out);
     let back = match written.refusal {
         0 if out[..written.length as usize] == line.file => ", written back the same".into(),
         0 => ", written back differently".into(),
@@ -37,7 +38,7 @@ fn read_and_written(line: &Line) -> String {
 /// Reads {1, 2} at 3 and {1} at 4 into lists of so many places, and shows what the lists hold then.
 fn read_into(rooms: [usize; 3]) -> String {
     let file = columns(2, &[(&[1, 2], 3), (&[1], 4)]).file();
-    let (mut costs, mut lengths, mut numbers) = ([BEFORE as u32; 4], [BEFORE as u16; 4], [BEFORE; 4]);
+    let (mut costs, mut lengths, mut numbers) = ([BEFORE as i32; 4], [BEFORE as u16; 4], [BEFORE; 4]);
     let shape = plain::read(&file, &mut costs[..rooms[0]], &mut lengths[..rooms[1]], &mut numbers[..rooms[2]]);
     let outcome = if shape.refusal == 0 { " read".into() } else { refused(shape.refusal) };
     let lists = [fields(&costs[..3]), fields(&lengths[..3]), fields(&numbers)].join(",");
@@ -45,7 +46,7 @@ fn read_into(rooms: [usize; 3]) -> String {
 }
 
 /// Lists for the writer and a buffer's number of places: a name, the rows, costs, body lengths, row numbers, places.
-type Lists = (&'static str, u16, &'static [u32], &'static [u16], &'static [u8], usize);
+type Lists = (&'static str, u16, &'static [i32], &'static [u16], &'static [u8], usize);
 
 const WRITTEN: [Lists; 14] = [
     ("no rows", 0, &[3, 4], &[2, 1], &[1, 2, 1], 32),
@@ -67,7 +68,7 @@ const WRITTEN: [Lists; 14] = [
 /// Writes lists, and shows the buffer's first byte and those at the end of a file of 27 bytes.
 fn written((name, rows, costs, lengths, numbers, places): Lists) -> String {
     let mut out = [BEFORE; 32];
-    let written = plain::write(rows, costs, lengths, numbers, &mut out[..places]);
+    let written = plain::write(Edition::One, rows, costs, lengths, numbers, &mut out[..places]);
     let outcome = if written.refusal == 0 { format!(" written {}", written.length) } else { refused(written.refusal) };
     format!("write, {name}{outcome}; buffer{}\n", fields(&[out[0], out[26], out[27]]))
 }

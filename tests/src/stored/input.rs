@@ -1,6 +1,7 @@
 //! Duty files as the stored inputs hold them: a line for each, of words and at its end the file's bytes in hexadecimal.
 
 use super::text;
+use crate::edition::Edition;
 use crate::files::Columns;
 use crate::plain;
 
@@ -40,9 +41,7 @@ pub fn lines(name: &str, words: usize) -> Result<Vec<Line>, String> {
 pub fn columns(file: &[u8]) -> Option<Columns> {
     let (mut costs, mut lengths, mut numbers) = (vec![0; 256], vec![0; 256], vec![0; 4096]);
     let shape = plain::read(file, &mut costs, &mut lengths, &mut numbers);
-    if shape.refusal != 0 {
-        return None;
-    }
+    let edition = Edition::numbered(shape.edition)?;
     costs.truncate(shape.columns as usize);
     let mut rest = &numbers[..shape.entries as usize];
     let mut bodies = Vec::new();
@@ -51,5 +50,5 @@ pub fn columns(file: &[u8]) -> Option<Columns> {
         bodies.push(body.to_vec());
         rest = behind;
     }
-    Some(Columns { rows: shape.rows as u16, costs, bodies })
+    Some(Columns { edition, rows: shape.rows as u16, costs, bodies })
 }

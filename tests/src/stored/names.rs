@@ -32,7 +32,7 @@ fn instance(file: &str, tokens: &[Token]) -> Result<Columns, String> {
     let rows_number = rows.words().and_then(|words| words.concat().parse().ok());
     let body_lists: Option<Vec<Vec<u8>>> = bodies.items().and_then(|items| items.iter().map(numbers).collect());
     match (rows_number, numbers(&costs), body_lists) {
-        (Some(rows), Some(costs), Some(bodies)) if costs.len() == bodies.len() => Ok(Columns { rows, costs, bodies }),
+        (Some(rows), Some(costs), Some(bodies)) if costs.len() == bodies.len() => Ok(Columns::new(rows, costs, bodies)),
         _ => Err(format!("{file}, line {}: not a number of rows and as many costs as bodies", rows.line)),
     }
 }

@@ -8,12 +8,12 @@ use crate::plain;
 /// A larger file by the program's rule: column j, counted from 0, costs 100 + 7919 j mod 997 and covers at most 2 + j mod 5 rows, each
 /// 1 + j mod 7 above the former. Its first row is 1 + stride j, counted around the rows.
 fn grown(rows: usize, columns: usize, stride: usize) -> Columns {
-    let cost = |column: usize| (100 + column * 7919 % 997) as u32;
+    let cost = |column: usize| (100 + column * 7919 % 997) as i32;
     let body = |column: usize| {
         let first = column * stride % rows + 1;
         (first..=rows).step_by(1 + column % 7).take(2 + column % 5).map(|row| row as u8).collect()
     };
-    Columns { rows: rows as u16, costs: (0..columns).map(cost).collect(), bodies: (0..columns).map(body).collect() }
+    Columns::new(rows as u16, (0..columns).map(cost).collect(), (0..columns).map(body).collect())
 }
 
 /// A file reduced into lists of so many places.

@@ -1,8 +1,11 @@
-//! What samples/ states of each sample: the line that the program prints for it, and its numbers of sailings and duties.
+//! What samples/ states of each sample: the line that the program prints for it, and its numbers of sailings and duties; and how mail.spp is
+//! made.
 
 use std::fs;
 
 use super::{bytes, input, line, repository, text};
+use crate::edition::Edition;
+use crate::files::Columns;
 use crate::goal::Goal;
 use crate::plain;
 
@@ -52,6 +55,18 @@ fn table_line(line: &str) -> Option<(String, String)> {
     let name = line.strip_prefix("| `")?.split_once('`')?.0.to_string();
     let front: Vec<&str> = line.split_inclusive('|').take(4).collect();
     Some((name, front.concat()))
+}
+
+/// The mail of mail.spp: two sailings, and what a duty with both of them brings in.
+const MAIL: [([u8; 2], i32); 6] = [([1, 3], 260), ([2, 4], 116), ([5, 7], 112), ([6, 8], 240), ([9, 11], 88), ([10, 12], 210)];
+
+/// The columns of mail.spp: those of harbour.spp, at their costs less what their mail brings in.
+pub fn mail() -> Result<Columns, String> {
+    let harbour = input::columns(&file("harbour.spp")?).ok_or("samples/harbour.spp: is refused")?;
+    let carries = |body: &[u8], sailings: [u8; 2]| sailings.iter().all(|sailing| body.contains(sailing));
+    let brings = |body: &[u8]| MAIL.iter().filter(|mail| carries(body, mail.0)).map(|mail| mail.1).sum::<i32>();
+    let costs = harbour.costs.iter().zip(&harbour.bodies).map(|(cost, body)| cost - brings(body)).collect();
+    Ok(Columns { edition: Edition::Two, costs, ..harbour })
 }
 
 /// The names of all samples, in the sequence of the alphabet.

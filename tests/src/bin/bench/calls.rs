@@ -2,6 +2,7 @@
 
 use std::hint::black_box;
 
+use spp_tests::edition::Edition;
 use spp_tests::files;
 use spp_tests::goal::Goal;
 use spp_tests::requests::Requests;
@@ -15,7 +16,7 @@ const CALLS: usize = 200;
 
 /// Lists with room for any file, lent again in each call.
 struct Lists {
-    costs: [u32; 256],
+    costs: [i32; 256],
     lengths: [u16; 256],
     rows: [u8; 4096],
     out: [u8; 6152],
@@ -56,8 +57,8 @@ pub fn table() {
     );
     line(
         "write",
-        |l| keep(engine::write(64, black_box(&costs), &lengths, &numbers, &mut l.out)),
-        |l| keep(plain::write(64, black_box(&costs), &lengths, &numbers, &mut l.out)),
+        |l| keep(engine::write(Edition::One, 64, black_box(&costs), &lengths, &numbers, &mut l.out)),
+        |l| keep(plain::write(Edition::One, 64, black_box(&costs), &lengths, &numbers, &mut l.out)),
     );
     line("check", |_| keep(engine::check(black_box(&file), &offered)), |_| keep(plain::check(black_box(&file), &offered)));
     line(

@@ -119,7 +119,7 @@ impl Measured {
     /// The line of a file of one column with as many rows, which is tested in little time. The ratio is of the medians.
     fn line_of_one_column(&self) {
         let body = &self.columns.bodies[0];
-        let file = Columns { rows: 64, costs: vec![1000], bodies: vec![body.clone()] }.file();
+        let file = Columns::new(64, vec![1000], vec![body.clone()]).file();
         let (mut tested, mut stepped) = (Task::new(&file, 1), Task::new(&file, 1));
         let [test, step] = measure::each_in_turn(REPEATS, [&mut || tested.test(), &mut || stepped.step()]);
         let alone = step.less(&test);

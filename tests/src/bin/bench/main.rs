@@ -5,6 +5,7 @@
 mod assign;
 mod calls;
 mod desk;
+mod earning;
 mod growth;
 mod measure;
 mod model;
@@ -59,6 +60,7 @@ fn main() {
     pairs::table(Goal::Longest, &longest_files);
     calls::table();
     growth::table();
+    earning::tables();
     stack::table();
     assign::table();
     uncrewed::table();
