@@ -3,20 +3,19 @@ use mathlib.Core.Path.{_≡_, refl, sym, ap, _∙_}
 use mathlib.Core.Bool.{true, false≢true}
 use mathlib.Core.List.{List, [], _∷_}
 use mathlib.Core.Logic.{⊎-elim}
-use Prim.Native.Nat.{ℕ, zero, suc, _≤_, _<_}
+use Prim.Native.Nat.{ℕ, _≤_, _<_}
 use native.Mathlib.Omega.{arith}
 use lib.IntN.{pos, _+ℤ_}
 use lib.ListN.{length, getD, take, drop, length-map, length-take, length-drop}
 use borrow.Author.Tests.{ltb-true, leb-true}
-use Rattle.refusals.specs.Refusals.{fine}
-use Rattle.refusals.proofs.Laws.{both, asked}
 use Rattle.node.specs.Lists.{member}
 use Rattle.node.specs.Matrix.{Matrix, width, body, span}
 use Rattle.node.proofs.Members.{member-cases, and-both}
 use Rattle.dutyfile.specs.declared.Entry.{Entry}
 use Rattle.dutyfile.specs.File.{editionIn, rowsIn, columnsIn, bodiesAt, entryOf, entries, costOf, sizeOf, parse, sum, shift, raised, instance, shape}
-use Rattle.dutyfile.specs.Faults.{rising, bodiesFault, contentsFault, rowsFault}
+use Rattle.dutyfile.specs.Faults.{rising, contentsFault, rowsFault}
 use Rattle.dutyfile.proofs.Entries.{length-entries, length-costs}
+use Rattle.dutyfile.proofs.Rising.{bodies-rise}
 use Rattle.dutyfile.proofs.Costs.{raised-is, raised-most, raised-long, raised-at}
 use Rattle.dutyfile.proofs.Facts.{Accepted, contents-small, length-numbers}
 use Rattle.dutyfile.proofs.Columns.{length-bodies, ColumnAt, column-at}
@@ -39,12 +38,6 @@ rising-member low high (x ∷ xs) r h m =
 pub parse-edition : (s : List ℕ) → parse s .edition ≡ editionIn s
 unfolding parse
 parse-edition s = refl
-
-bodies-rising : (m : ℕ) (bs : List (List ℕ)) (j : ℕ) → bodiesFault m bs ≡ fine → rising 0 m (getD bs j []) ≡ true
-unfolding bodiesFault rising
-bodies-rising m [] j h = refl
-bodies-rising m (b ∷ bs) zero h = asked (rising 0 m b) 9 (both _ _ h .0)
-bodies-rising m (b ∷ bs) (suc j) h = bodies-rising m bs j (both _ _ h .1)
 
 module _ (s : List ℕ) (a : Accepted s) where
   abbrev p : Matrix
@@ -80,7 +73,7 @@ module _ (s : List ℕ) (a : Accepted s) where
 
   pub file-rises : (j : ℕ) → rising 0 (p .rows) (body p j) ≡ true
   unfolding instance parse rowsFault
-  file-rises j = bodies-rising (rowsIn s) (p .bodies) j (a .rising)
+  file-rises j = bodies-rise (rowsIn s) (p .bodies) j (a .rising)
 
   numbered : (j r : ℕ) → member r (body p j) ≡ true → (1 ≤ r) × (r ≤ p .rows)
   numbered j r m = rising-member 0 (p .rows) (body p j) r (file-rises j) m
