@@ -2,13 +2,11 @@
  * A desk plug-in: reads a duty file, searches for the cheapest plan, or for the one whose longest duty is cheapest, checks it and prints
  * the roster. The numbers after `agreed` are those of duties that must be in the plan, and after `absent` of duties that must not be; both
  * rise, and an absent duty is struck from the agreed ones. Those after `pairs` are the first and the second duty of each pair in turn: the
- * first may be in the plan only if the second is. Those after `ports` are the home port of each duty, 1 to 8, and those after `limits` the
- * least numbers of duties in the plan of ports 1 to 8, then the greatest; with them a line for each port follows the roster. With `drag` it
- * makes an empty desk over the file, puts duty N in at +N and takes it out at -N, and says after each such step whether the duties in are a
- * plan. The file may be SPP1 or SPP2, but `longest` takes SPP1 alone, and no ports.
+ * first may be in the plan only if the second is. With `drag` it makes an empty desk over the file, puts duty N in at +N and takes it out
+ * at -N, and says after each such step whether the duties in are a plan. The file may be SPP1 or SPP2, but `longest` takes SPP1 alone.
  *
  *     gcc -Iinclude examples/desk.c target/staticlib/libspp.a -o desk
- *     ./desk FILE [ALLOWANCE [sum|longest [agreed N..] [absent N..] [pairs N N..] [ports N.. limits N..]]]
+ *     ./desk FILE [ALLOWANCE [sum|longest [agreed N..] [absent N..] [pairs N N..]]]
  *     ./desk FILE drag [+N|-N]..
  *
  * Exit status: 0 with a roster, or with a plan on the desk at the end; 1 if there is no plan to show; 2 with an error.
@@ -32,23 +30,17 @@ struct duties {
 };
 
 /*
- * The numbers of a list that a desk gives. A list of duties that is longer than this cannot rise, and is refused by its first places; as
- * pairs, ports or limits it is refused by its length, which is above that of the most pairs, the most ports and the limits.
+ * Duty numbers. A list that is longer than this cannot rise, and is refused by its first places; and as pairs it is refused by its
+ * length, which is one above that of the most pairs.
  */
 struct numbers {
     uint16_t list[SPP_MOST_COLUMNS + 1];
     size_t count;
 };
 
-/* The lists that a desk may give: the word before each, and what a number in it is. */
-enum { AGREED, ABSENT, PAIRS, PORTS, LIMITS, LISTS };
-static const char *const list_words[LISTS] = {"agreed", "absent", "pairs", "ports", "limits"};
-static const char *const number_kinds[LISTS] = {"duty number", "duty number", "duty number", "port", "limit"};
-
-/* The lists as a desk gives them, and the ports as they are lent. */
+/* The lists that a desk may give. */
 struct asked {
-    struct numbers lists[LISTS];
-    uint8_t ports[SPP_MOST_COLUMNS + 1];
+    struct numbers agreed, absent, pairs;
 };
 
 /* The first refusals, each at the place of its number. */
@@ -82,12 +74,6 @@ static const char *reason(uint32_t refusal) {
         return "a duty number of a pair is out of range, or a duty is paired with itself";
     case SPP_BAD_PAIR_COUNT:
         return "the pairs have an odd number of duty numbers, or are more than 128";
-    case SPP_BAD_PORT:
-        return "a port is not from 1 to 8, there is not one port for each duty, or there are not 16 limits";
-    case SPP_BAD_SHARE:
-        return "the least number of duties of a port is above its greatest";
-    case SPP_PORTS_NOT_TAKEN:
-        return "the longest duty is searched for without ports and limits";
     case SPP_OVERLAP:
         return "two lent lists overlap";
     default:
@@ -151,41 +137,8 @@ static int64_t dearest(const struct duties *duties, const uint16_t *plan, size_t
     return most;
 }
 
-/* How many duties of a plan belong to a port. */
-static size_t of_port(const struct spp_lists *lists, unsigned port, const uint16_t *plan, size_t count) {
-    size_t found = 0, i;
-    for (i = 0; i < count; i++) {
-        found += lists->ports[plan[i] - 1] == port;
-    }
-    return found;
-}
-
-/* Whether a plan has of each port a number of duties within its limits; without ports it has. */
-static int keeps_limits(const struct spp_lists *lists, const uint16_t *plan, size_t count) {
-    unsigned port;
-    for (port = 1; lists->port_count > 0 && port <= SPP_MOST_PORTS; port++) {
-        size_t found = of_port(lists, port, plan, count);
-        if (found < lists->limits[port - 1] || found > lists->limits[SPP_MOST_PORTS + port - 1]) {
-            return 0;
-        }
-    }
-    return 1;
-}
-
-/* Prints for each port that has duties in the file how many of them are in the plan, and its limits. */
-static void print_ports(const struct spp_lists *lists, const uint16_t *plan, size_t count) {
-    unsigned port;
-    for (port = 1; port <= SPP_MOST_PORTS; port++) {
-        if (lists->port_count > 0 && memchr(lists->ports, (int)port, lists->port_count)) {
-            printf("port %u, %u duties, least %u, greatest %u\n", port, (unsigned)of_port(lists, port, plan, count),
-                   (unsigned)lists->limits[port - 1], (unsigned)lists->limits[SPP_MOST_PORTS + port - 1]);
-        }
-    }
-}
-
-/* Checks the plan shown against the file and the limits, and prints it. */
-static int print_roster(const struct duties *duties, struct spp_answer answer, const uint16_t *plan, int longest,
-                        const struct spp_lists *lists) {
+/* Checks the plan shown against the file, and prints it. */
+static int print_roster(const struct duties *duties, struct spp_answer answer, const uint16_t *plan, int longest) {
     struct spp_checked checked = spp_check(duties->file, duties->length, plan, answer.columns);
     size_t i;
     if (checked.refusal) {
@@ -195,17 +148,12 @@ static int print_roster(const struct duties *duties, struct spp_answer answer, c
         fprintf(stderr, "desk: the plan shown does not pass the plan check\n");
         return 2;
     }
-    if (!keeps_limits(lists, plan, answer.columns)) {
-        fprintf(stderr, "desk: the plan shown does not keep the limits of the ports\n");
-        return 2;
-    }
     printf("%s roster: %u duties, %s %" PRId64 ", floor %" PRId64 ", %u nodes\n",
            answer.outcome == SPP_BEST ? "best" : "stopped", (unsigned)answer.columns, longest ? "longest duty" : "price",
            answer.price, answer.bound, (unsigned)answer.nodes);
     for (i = 0; i < answer.columns; i++) {
         print_duty(duties, plan[i]);
     }
-    print_ports(lists, plan, answer.columns);
     return 0;
 }
 
@@ -224,20 +172,12 @@ static int overlap(const struct spp_lists *lists) {
 
 /* Prints what no plan does, by the lists that are given. */
 static void print_unmet(const struct spp_lists *lists) {
-    const char *before = "";
     if (lists->agreed_count || lists->absent_count) {
-        printf("has every agreed duty%s and no absent one", overlap(lists) ? " that is not absent" : "");
-        before = " and ";
+        printf("has every agreed duty%s and no absent one%s", overlap(lists) ? " that is not absent" : "",
+               lists->pair_count ? " and obeys the pairs" : "");
+    } else {
+        printf("%s", lists->pair_count ? "obeys the pairs" : "exists");
     }
-    if (lists->pair_count) {
-        printf("%sobeys the pairs", before);
-        before = " and ";
-    }
-    if (lists->port_count) {
-        printf("%skeeps the limits of the ports", before);
-        before = " and ";
-    }
-    printf("%s", *before ? "" : "exists");
 }
 
 static int solve(const struct duties *duties, uint32_t node_limit, int longest, const struct spp_lists *lists) {
@@ -253,7 +193,7 @@ static int solve(const struct duties *duties, uint32_t node_limit, int longest, 
         return refused("the search", answer.refusal);
     }
     if (answer.has_plan) {
-        return print_roster(duties, answer, plan, longest, lists);
+        return print_roster(duties, answer, plan, longest);
     }
     if (answer.outcome == SPP_NONE) {
         printf("no roster: no plan ");
@@ -273,70 +213,42 @@ static unsigned long number_of(const char *text, unsigned long most, unsigned lo
 }
 
 static int usage(void) {
-    fprintf(stderr,
-            "usage: desk FILE [ALLOWANCE [sum|longest [agreed N..] [absent N..] [pairs N N..] [ports N.. limits N..]]]\n");
+    fprintf(stderr, "usage: desk FILE [ALLOWANCE [sum|longest [agreed N..] [absent N..] [pairs N N..]]]\n");
     fprintf(stderr, "       desk FILE drag [+N|-N]..\n");
     return 2;
 }
 
-/* A text as a number of a list, which may be out of range; NO_NUMBER for any other text. */
-#define NO_NUMBER (UINT16_MAX + 1ul)
-static unsigned long listed(const char *text) {
-    return number_of(text, UINT16_MAX, NO_NUMBER);
+/* A text as a duty number, which may be out of range; NO_DUTY for any other text. */
+#define NO_DUTY (UINT16_MAX + 1ul)
+static unsigned long duty_of(const char *text) {
+    return number_of(text, UINT16_MAX, NO_DUTY);
 }
 
-static int no_number(const char *word, const char *kind) {
-    fprintf(stderr, "desk: %s is not a %s\n", word, kind);
+static int no_duty(const char *word) {
+    fprintf(stderr, "desk: %s is not a duty number\n", word);
     return 2;
 }
 
-/* The list that a word stands before; LISTS for any other word. */
-static size_t list_of(const char *word) {
-    size_t list = 0;
-    while (list < LISTS && strcmp(word, list_words[list])) {
-        list++;
-    }
-    return list;
-}
-
-/* Reads the words after the goal, up to a null pointer: the numbers after a list's word are put into that list. */
+/* Reads the words after the goal, up to a null pointer: numbers after `agreed`, `absent` or `pairs` are put into that list. */
 static int read_lists(char **words, struct asked *asked) {
-    size_t list = LISTS;
+    struct numbers *numbers = NULL;
     for (; *words; words++) {
-        unsigned long number = listed(*words);
-        if (list_of(*words) < LISTS) {
-            list = list_of(*words);
-        } else if (list == LISTS) {
+        unsigned long number = duty_of(*words);
+        if (!strcmp(*words, "agreed")) {
+            numbers = &asked->agreed;
+        } else if (!strcmp(*words, "absent")) {
+            numbers = &asked->absent;
+        } else if (!strcmp(*words, "pairs")) {
+            numbers = &asked->pairs;
+        } else if (!numbers) {
             return usage();
-        } else if (number == NO_NUMBER) {
-            return no_number(*words, number_kinds[list]);
-        } else if (asked->lists[list].count <= SPP_MOST_COLUMNS) {
-            asked->lists[list].list[asked->lists[list].count++] = (uint16_t)number;
+        } else if (number == NO_DUTY) {
+            return no_duty(*words);
+        } else if (numbers->count <= SPP_MOST_COLUMNS) {
+            numbers->list[numbers->count++] = (uint16_t)number;
         }
     }
     return 0;
-}
-
-/* Lends the lists that are given. A port that is no byte is lent as 0, which is out of range too. */
-static struct spp_lists lend(struct asked *asked) {
-    struct spp_lists lists;
-    size_t i;
-    for (i = 0; i < asked->lists[PORTS].count; i++) {
-        uint16_t port = asked->lists[PORTS].list[i];
-        asked->ports[i] = (uint8_t)(port > UINT8_MAX ? 0 : port);
-    }
-    memset(&lists, 0, sizeof lists);
-    lists.agreed = asked->lists[AGREED].list;
-    lists.agreed_count = asked->lists[AGREED].count;
-    lists.absent = asked->lists[ABSENT].list;
-    lists.absent_count = asked->lists[ABSENT].count;
-    lists.pairs = asked->lists[PAIRS].list;
-    lists.pair_count = asked->lists[PAIRS].count;
-    lists.ports = asked->ports;
-    lists.port_count = asked->lists[PORTS].count;
-    lists.limits = asked->lists[LIMITS].list;
-    lists.limit_count = asked->lists[LIMITS].count;
-    return lists;
 }
 
 /* Looks at the words of steps, up to a null pointer: each is a sign and a duty number. */
@@ -345,8 +257,8 @@ static int read_steps(char **words) {
         if (**words != '+' && **words != '-') {
             return usage();
         }
-        if (listed(*words + 1) == NO_NUMBER) {
-            return no_number(*words, "duty number");
+        if (duty_of(*words + 1) == NO_DUTY) {
+            return no_duty(*words);
         }
     }
     return 0;
@@ -366,7 +278,7 @@ static int print_reply(const struct spp_desk *desk) {
 /* Makes the step of a word and prints what it came to, or its refusal; 0 with a refusal. */
 static int make_step(const struct duties *duties, const char *word, struct spp_desk *desk) {
     int in = *word == '+';
-    uint32_t column = (uint32_t)listed(word + 1);
+    uint32_t column = (uint32_t)duty_of(word + 1);
     struct spp_step step = (in ? spp_desk_add : spp_desk_remove)(duties->file, duties->length, column, desk);
     char call[32];
     if (step.refusal) {
@@ -423,7 +335,13 @@ static int solve_by_words(struct duties *duties, int count, char **words) {
     if (failed) {
         return failed;
     }
-    lists = lend(&asked);
+    memset(&lists, 0, sizeof lists);
+    lists.agreed = asked.agreed.list;
+    lists.agreed_count = asked.agreed.count;
+    lists.absent = asked.absent.list;
+    lists.absent_count = asked.absent.count;
+    lists.pairs = asked.pairs.list;
+    lists.pair_count = asked.pairs.count;
     return solve(duties, node_limit, longest, &lists);
 }
 

@@ -3,8 +3,8 @@
  *
  * Link with target/staticlib/libspp.a, which `rt staticlib spp` builds. Call the functions at the end of this file, spp_read to
  * spp_desk_reply. They refuse lists of which any two overlap, two that are only read among them, and null pointers, before the engine is
- * entered, and spp_longest_with refuses ports and limits; the functions spp_core_.. are the engine itself, which takes for granted that no
- * two lists overlap and that no pointer is null.
+ * entered; the functions spp_core_.. are the engine itself, which takes for granted that no two lists overlap and that no pointer is
+ * null.
  *
  * A row is a sailing, a column a duty; both are numbered from 1. A list is lent as a pointer and the number of its places. A call that
  * refuses writes to no list and to no desk. Places beyond what is filled keep their contents. Fields that a case does not use are 0.
@@ -17,9 +17,6 @@
  *
  * A plug-in that was written before SPP2 must change its lists of costs and of reduced costs from uint32_t to int32_t, print costs, prices
  * and lower bounds as signed numbers, and be compiled anew: struct spp_shape has grown. SPP1 files give it the same answers as before.
- *
- * A plug-in that was written before ports (struct spp_lists) needs no change, and gets the same answers as before. It must be compiled anew:
- * the struct has grown, and spp_core_search takes two more lists.
  */
 #ifndef SPP_H
 #define SPP_H
@@ -48,47 +45,39 @@ extern "C" {
 /* The most pairs of columns that a search takes. */
 #define SPP_MOST_PAIRS 128
 
-/* The largest number of a home port, and the number of limits: a least and a greatest number of columns for each port. */
-#define SPP_MOST_PORTS 8
-#define SPP_LIMIT_COUNT 16
-
 /* Largest values in an accepted table; its costs are at most SPP_MOST_COST. */
 #define SPP_MOST_CREWS 16
 #define SPP_MOST_VESSELS 16
 
 /* Values of `refusal`. */
-#define SPP_ACCEPTED 0          /* the call was carried out */
-#define SPP_BAD_MARK 1          /* the file has under 8 bytes, or begins with neither SPP1 nor, where that is taken, SPP2 */
-#define SPP_BAD_SIZE 2          /* number of rows or columns out of range */
-#define SPP_CUT_CONTENTS 3      /* the file ends inside the contents */
-#define SPP_BAD_COST 4          /* a cost is out of the range of the file's edition, or of the one to be written */
-#define SPP_BAD_LENGTH 5        /* a body length is out of range */
-#define SPP_MANY_ENTRIES 6      /* the body lengths sum to more than 4,096, for spp_uncrewed with its extra columns */
-#define SPP_BAD_START 7         /* a body does not start where the former ends */
-#define SPP_BAD_END 8           /* the file does not end with the last body */
-#define SPP_BAD_ROW 9           /* a row number is out of range, or a body does not rise */
-#define SPP_SHORT_LIST 10       /* a list or buffer lent for the answer is too short */
-#define SPP_BAD_LIMIT 11        /* the node limit is out of range */
-#define SPP_BAD_COLUMN 12       /* an offered column is out of range, or the offered list does not rise */
-#define SPP_UNEQUAL_LISTS 13    /* the writer's lists disagree in length */
-#define SPP_BAD_AGREED 14       /* an agreed column is out of range, or the agreed list does not rise */
-#define SPP_BAD_ABSENT 15       /* an absent column is out of range, or the absent list does not rise */
-#define SPP_BAD_TABLE 16        /* the table has no crews, above 16 crews or vessels, or more crews than vessels */
-#define SPP_BAD_TABLE_COST 17   /* a cost in the table is above 1,000,000 */
-#define SPP_MANY_COLUMNS 18     /* the file has more columns than spp_uncrewed takes, 192 */
-#define SPP_NO_COLUMN 19        /* the column number is out of range */
-#define SPP_BAD_PAIR 20         /* a column of a pair is out of range, or both columns of a pair are the same */
-#define SPP_BAD_PAIR_COUNT 21   /* the list of pairs has an odd number of numbers, or more than 128 pairs */
-#define SPP_BAD_PORT 22         /* a port is out of range, there is not one for each column, or there are not 16 limits */
-#define SPP_BAD_SHARE 23        /* the least number of columns of a port is above its greatest */
-#define SPP_OVERLAP 100         /* two lent lists, structs or tables overlap, or a list reaches beyond the address space */
-#define SPP_NULL 101            /* a null pointer was lent with a number of places above 0, or for a struct or a table */
-#define SPP_PORTS_NOT_TAKEN 102 /* ports or limits were lent to spp_longest_with, which takes none */
+#define SPP_ACCEPTED 0        /* the call was carried out */
+#define SPP_BAD_MARK 1        /* the file has under 8 bytes, or begins with neither SPP1 nor, where that is taken, SPP2 */
+#define SPP_BAD_SIZE 2        /* number of rows or columns out of range */
+#define SPP_CUT_CONTENTS 3    /* the file ends inside the contents */
+#define SPP_BAD_COST 4        /* a cost is out of the range of the file's edition, or of the one to be written */
+#define SPP_BAD_LENGTH 5      /* a body length is out of range */
+#define SPP_MANY_ENTRIES 6    /* the body lengths sum to more than 4,096, for spp_uncrewed with its extra columns */
+#define SPP_BAD_START 7       /* a body does not start where the former ends */
+#define SPP_BAD_END 8         /* the file does not end with the last body */
+#define SPP_BAD_ROW 9         /* a row number is out of range, or a body does not rise */
+#define SPP_SHORT_LIST 10     /* a list or buffer lent for the answer is too short */
+#define SPP_BAD_LIMIT 11      /* the node limit is out of range */
+#define SPP_BAD_COLUMN 12     /* an offered column is out of range, or the offered list does not rise */
+#define SPP_UNEQUAL_LISTS 13  /* the writer's lists disagree in length */
+#define SPP_BAD_AGREED 14     /* an agreed column is out of range, or the agreed list does not rise */
+#define SPP_BAD_ABSENT 15     /* an absent column is out of range, or the absent list does not rise */
+#define SPP_BAD_TABLE 16      /* the table has no crews, above 16 crews or vessels, or more crews than vessels */
+#define SPP_BAD_TABLE_COST 17 /* a cost in the table is above 1,000,000 */
+#define SPP_MANY_COLUMNS 18   /* the file has more columns than spp_uncrewed takes, 192 */
+#define SPP_NO_COLUMN 19      /* the column number is out of range */
+#define SPP_BAD_PAIR 20       /* a column of a pair is out of range, or both columns of a pair are the same */
+#define SPP_BAD_PAIR_COUNT 21 /* the list of pairs has an odd number of numbers, or more than 128 pairs */
+#define SPP_OVERLAP 100       /* two lent lists, structs or tables overlap, or a list reaches beyond the address space */
+#define SPP_NULL 101          /* a null pointer was lent with a number of places above 0, or for a struct or a table */
 
 /*
  * Values of `outcome`, but for struct spp_uncrewed; 0 with a refusal. Plans are those that hold every agreed column that is not absent and
- * no absent one, obey the pairs, and have of each port a number of columns within its limits (struct spp_lists). For spp_assign read
- * assignment for plan and total for price.
+ * no absent one, and obey the pairs (struct spp_lists). For spp_assign read assignment for plan and total for price.
  */
 #define SPP_BEST 1    /* no plan has a lower price than the one shown */
 #define SPP_NONE 2    /* there is no plan */
@@ -130,19 +119,11 @@ struct spp_reduced {
 };
 
 /*
- * Columns that must be in the plan, columns that must not be, pairs of columns of which the first may be in the plan only if the second
- * is, and home ports, of each of which a plan has a number of columns within limits. Each list may be empty, and a struct of zeros means no
- * lists. The agreed and the absent list rise. A column may stand in both: once both lists are tested as they are lent, it is struck from the
- * agreed one. One array lent as both lists is refused. There are at most 128 pairs, which may form chains and rings; a ring means all of its
- * columns or none.
- *
- * Ports are numbered from 1 to 8, and each column belongs to one of them. The limits are the least numbers of columns in a plan for ports 1
- * to 8, then the greatest for ports 1 to 8. They may be any numbers with no least above its greatest; 0 and 64 for every port ask nothing,
- * whatever the ports. Both lists are lent or neither: one without the other is refused with SPP_BAD_PORT. Where neither is lent,
- * spp_search_with lends the engine port 1 for every column, and the limits 0 and 64. spp_longest_with takes no ports: it refuses a struct that
- * lends ports or limits with SPP_PORTS_NOT_TAKEN, since its plan could break the limits.
- *
- * Fields may be added at the end, so set all of it to zeros first:
+ * Columns that must be in the plan, columns that must not be, and pairs of columns of which the first may be in the plan only if the
+ * second is. Each list may be empty, and a struct of zeros means no lists. The agreed and the absent list rise. A column may stand in both:
+ * once both lists are tested as they are lent, it is struck from the agreed one. One array lent as both lists is refused. There are at most
+ * 128 pairs, which may form chains and rings; a ring means all of its columns or none. Fields may be added at the end, so set all of it to
+ * zeros first:
  *
  *     struct spp_lists lists;
  *     memset(&lists, 0, sizeof lists);
@@ -152,12 +133,8 @@ struct spp_lists {
     size_t agreed_count;
     const uint16_t *absent; /* columns that must not be in the plan */
     size_t absent_count;
-    const uint16_t *pairs;  /* pairs of columns, first and second in turn: the first may be in the plan only if the second is */
-    size_t pair_count;      /* the number of numbers in this list, twice the number of pairs */
-    const uint8_t *ports;   /* for each column the port that it belongs to */
-    size_t port_count;      /* the number of columns of the file, or 0 */
-    const uint16_t *limits; /* for each port the least number of columns in a plan, then for each port the greatest */
-    size_t limit_count;     /* SPP_LIMIT_COUNT, or 0 */
+    const uint16_t *pairs; /* pairs of columns, first and second in turn: the first may be in the plan only if the second is */
+    size_t pair_count;     /* the number of numbers in this list, twice the number of pairs */
 };
 
 /*
@@ -234,8 +211,7 @@ struct spp_reduced spp_core_reduce(const uint8_t *file, size_t file_count, int32
                                    uint8_t *order, size_t order_count);
 struct spp_answer spp_core_search(const uint8_t *file, size_t file_count, uint32_t node_limit, const uint16_t *agreed,
                                   size_t agreed_count, const uint16_t *absent, size_t absent_count, const uint16_t *pairs,
-                                  size_t pair_count, const uint8_t *ports, size_t port_count, const uint16_t *limits,
-                                  size_t limit_count, uint16_t *plan, size_t plan_count);
+                                  size_t pair_count, uint16_t *plan, size_t plan_count);
 struct spp_answer spp_core_longest(const uint8_t *file, size_t file_count, uint32_t node_limit, const uint16_t *agreed,
                                    size_t agreed_count, const uint16_t *absent, size_t absent_count, const uint16_t *pairs,
                                    size_t pair_count, uint16_t *plan, size_t plan_count);
@@ -255,6 +231,12 @@ struct spp_reply spp_core_desk_reply(uint32_t off, int32_t total);
 typedef struct spp_written (*spp_core_writer)(uint16_t rows, const int32_t *costs, size_t cost_count,
                                               const uint16_t *lengths, size_t length_count, const uint8_t *row_numbers,
                                               size_t row_count, uint8_t *out, size_t out_count);
+
+/* One of the engine's two searches. */
+typedef struct spp_answer (*spp_core_call)(const uint8_t *file, size_t file_count, uint32_t node_limit,
+                                           const uint16_t *agreed, size_t agreed_count, const uint16_t *absent,
+                                           size_t absent_count, const uint16_t *pairs, size_t pair_count, uint16_t *plan,
+                                           size_t plan_count);
 
 /* One of the engine's two steps of a desk. */
 typedef struct spp_step (*spp_core_step)(const uint8_t *file, size_t file_count, uint32_t column, uint8_t *marks,
@@ -403,127 +385,59 @@ static inline struct spp_reduced spp_reduce(const uint8_t *file, size_t file_cou
                            order ? order : &no_row, order_count);
 }
 
-/* Places for the lists of a search that are lent as null pointers, and for the ports and limits of one that has none. */
-struct spp_places {
-    uint8_t file, ports[SPP_MOST_COLUMNS];
-    uint16_t agreed, absent, pairs, limits[SPP_LIMIT_COUNT], plan;
-};
-
-/* The lists of a search as the engine takes them, or the refusal of a guard. */
-struct spp_lent {
-    uint32_t refusal;
-    const uint8_t *file;
-    struct spp_lists lists;
-    uint16_t *plan;
-};
-
-/* Guards the lists of a search, and the struct as a list of one place. Each null pointer gets a place of its own. */
-static inline struct spp_lent spp_lend(const uint8_t *file, size_t file_count, const struct spp_lists *lists,
-                                       uint16_t *plan, size_t plan_count, struct spp_places *places) {
-    const struct spp_lists none = {NULL, 0, NULL, 0, NULL, 0, NULL, 0, NULL, 0}, l = lists ? *lists : none;
-    const struct spp_list guarded[8] = {{file, file_count, sizeof *file},
-                                        {l.agreed, l.agreed_count, sizeof *l.agreed},
-                                        {l.absent, l.absent_count, sizeof *l.absent},
-                                        {l.pairs, l.pair_count, sizeof *l.pairs},
-                                        {l.ports, l.port_count, sizeof *l.ports},
-                                        {l.limits, l.limit_count, sizeof *l.limits},
-                                        {plan, plan_count, sizeof *plan},
-                                        {lists, 1, sizeof *lists}};
-    struct spp_lent lent = {spp_guard(guarded, 8), file ? file : &places->file, l, plan ? plan : &places->plan};
-    lent.lists.agreed = l.agreed ? l.agreed : &places->agreed;
-    lent.lists.absent = l.absent ? l.absent : &places->absent;
-    lent.lists.pairs = l.pairs ? l.pairs : &places->pairs;
-    lent.lists.ports = l.ports ? l.ports : places->ports;
-    lent.lists.limits = l.limits ? l.limits : places->limits;
-    return lent;
+/* A search by the engine's call, with its lists guarded, and the struct as a list of one place. */
+static inline struct spp_answer spp_guarded_search(spp_core_call call, const uint8_t *file, size_t file_count,
+                                                   uint32_t node_limit, const struct spp_lists *lists, uint16_t *plan,
+                                                   size_t plan_count) {
+    const struct spp_lists none = {NULL, 0, NULL, 0, NULL, 0}, l = lists ? *lists : none;
+    const struct spp_list lent[6] = {{file, file_count, sizeof *file},
+                                     {l.agreed, l.agreed_count, sizeof *l.agreed},
+                                     {l.absent, l.absent_count, sizeof *l.absent},
+                                     {l.pairs, l.pair_count, sizeof *l.pairs},
+                                     {plan, plan_count, sizeof *plan},
+                                     {lists, 1, sizeof *lists}};
+    struct spp_answer refused = {0, 0, 0, 0, 0, 0, 0};
+    uint8_t no_file = 0;
+    uint16_t no_agreed = 0, no_absent = 0, no_pair = 0, no_column = 0;
+    refused.refusal = spp_guard(lent, 6);
+    if (refused.refusal) {
+        return refused;
+    }
+    return call(file ? file : &no_file, file_count, node_limit, l.agreed ? l.agreed : &no_agreed, l.agreed_count,
+                l.absent ? l.absent : &no_absent, l.absent_count, l.pairs ? l.pairs : &no_pair, l.pair_count,
+                plan ? plan : &no_column, plan_count);
 }
 
 /*
- * The number of columns that a file states, at most 256, and 0 if it has under 8 bytes. A file that is shorter or states more is refused by
- * the engine before it looks at ports.
- */
-static inline size_t spp_stated_columns(const uint8_t *file, size_t file_count) {
-    size_t columns = file_count < 8 ? 0 : file[6] + 256 * (size_t)file[7];
-    return columns < SPP_MOST_COLUMNS ? columns : SPP_MOST_COLUMNS;
-}
-
-/* Lends port 1 for every column, and limits that ask nothing: no plan has more columns than there are rows. */
-static inline void spp_lend_ports(size_t columns, struct spp_lists *lists, struct spp_places *places) {
-    size_t i;
-    for (i = 0; i < columns; i++) {
-        places->ports[i] = 1;
-    }
-    for (i = 0; i < SPP_MOST_PORTS; i++) {
-        places->limits[i] = 0;
-        places->limits[SPP_MOST_PORTS + i] = SPP_MOST_ROWS;
-    }
-    lists->ports = places->ports;
-    lists->port_count = columns;
-    lists->limits = places->limits;
-    lists->limit_count = SPP_LIMIT_COUNT;
-}
-
-/* The answer of a search that is refused. */
-static inline struct spp_answer spp_refused_search(uint32_t refusal) {
-    const struct spp_answer refused = {refusal, 0, 0, 0, 0, 0, 0};
-    return refused;
-}
-
-/*
- * Searches for a plan with the least sum of costs that holds every agreed column that is not absent and no absent one, obeys the pairs, and
- * has of each port a number of columns within its limits, and enters at most `node_limit` nodes, 1 to 1,000,000: fills in the plan's
- * columns, rising. The plan list must hold as many places as there are rows. The struct is lent as the lists are: it must not be null nor
- * share a byte with one of them.
+ * Searches for a plan with the least sum of costs that holds every agreed column that is not absent and no absent one, and obeys the
+ * pairs, and enters at most `node_limit` nodes, 1 to 1,000,000: fills in the plan's columns, rising. The plan list must hold as many
+ * places as there are rows. The struct is lent as the lists are: it must not be null nor share a byte with one of them.
  *
  * In an SPP2 file the search takes each column's cost with 1,000,000 more for each row that it covers. Every plan's price is then
  * 1,000,000 higher for each row of the file, which is taken off the price and the lower bound answered.
  */
 static inline struct spp_answer spp_search_with(const uint8_t *file, size_t file_count, uint32_t node_limit,
                                                 const struct spp_lists *lists, uint16_t *plan, size_t plan_count) {
-    struct spp_places places = {0, {0}, 0, 0, 0, {0}, 0};
-    struct spp_lent lent = spp_lend(file, file_count, lists, plan, plan_count, &places);
-    struct spp_lists *l = &lent.lists;
-    if (lent.refusal) {
-        return spp_refused_search(lent.refusal);
-    }
-    if (l->port_count == 0 && l->limit_count == 0) {
-        spp_lend_ports(spp_stated_columns(file, file_count), l, &places);
-    }
-    return spp_core_search(lent.file, file_count, node_limit, l->agreed, l->agreed_count, l->absent, l->absent_count,
-                           l->pairs, l->pair_count, l->ports, l->port_count, l->limits, l->limit_count, lent.plan,
-                           plan_count);
+    return spp_guarded_search(spp_core_search, file, file_count, node_limit, lists, plan, plan_count);
 }
 
-/*
- * Searches an SPP1 file for a plan whose largest cost is least (its longest duty). A struct that lends ports or limits is refused with
- * SPP_PORTS_NOT_TAKEN, after the other guards and before the engine is entered; all else is as for spp_search_with.
- */
+/* Searches an SPP1 file for a plan whose largest cost is least (its longest duty); all else is as for spp_search_with. */
 static inline struct spp_answer spp_longest_with(const uint8_t *file, size_t file_count, uint32_t node_limit,
                                                  const struct spp_lists *lists, uint16_t *plan, size_t plan_count) {
-    struct spp_places places = {0, {0}, 0, 0, 0, {0}, 0};
-    const struct spp_lent lent = spp_lend(file, file_count, lists, plan, plan_count, &places);
-    const struct spp_lists *l = &lent.lists;
-    if (lent.refusal) {
-        return spp_refused_search(lent.refusal);
-    }
-    if (l->port_count > 0 || l->limit_count > 0) {
-        return spp_refused_search(SPP_PORTS_NOT_TAKEN);
-    }
-    return spp_core_longest(lent.file, file_count, node_limit, l->agreed, l->agreed_count, l->absent, l->absent_count,
-                            l->pairs, l->pair_count, lent.plan, plan_count);
+    return spp_guarded_search(spp_core_longest, file, file_count, node_limit, lists, plan, plan_count);
 }
 
 /* spp_search_with, with no lists. */
 static inline struct spp_answer spp_search(const uint8_t *file, size_t file_count, uint32_t node_limit, uint16_t *plan,
                                            size_t plan_count) {
-    const struct spp_lists none = {NULL, 0, NULL, 0, NULL, 0, NULL, 0, NULL, 0};
+    const struct spp_lists none = {NULL, 0, NULL, 0, NULL, 0};
     return spp_search_with(file, file_count, node_limit, &none, plan, plan_count);
 }
 
 /* spp_longest_with, with no lists. */
 static inline struct spp_answer spp_longest(const uint8_t *file, size_t file_count, uint32_t node_limit, uint16_t *plan,
                                             size_t plan_count) {
-    const struct spp_lists none = {NULL, 0, NULL, 0, NULL, 0, NULL, 0, NULL, 0};
+    const struct spp_lists none = {NULL, 0, NULL, 0, NULL, 0};
     return spp_longest_with(file, file_count, node_limit, &none, plan, plan_count);
 }
 

@@ -1,8 +1,7 @@
 /*
  * The guards of include/spp.h: lists that overlap and null pointers are refused before the engine is entered, and nothing is touched.
  * Each case lends every call's lists at chosen places of one block of memory. The struct of the searches with lists stands in the block
- * too, as a list with one place. It, the table of crews against vessels and the desk are lent without a count. The searches with lists are
- * gone through without ports and with them; the one for the longest duty refuses these, after its guards.
+ * too, as the last list of the call, with one place. It, the table of crews against vessels and the desk are lent without a count.
  * Accepted calls, on SPP1 and SPP2 files, have stated answers, so that the header's structs are held to the engine's.
  */
 #include <stdio.h>
@@ -10,13 +9,11 @@
 
 #include "spp.h"
 
-#define BLOCK 9600
+#define BLOCK 8000
 #define APART 1040 /* bytes between the lists' first places */
-#define MOST_LISTS 8
+#define MOST_LISTS 6
 #define PLAN 4   /* the place of the plan among the lists of a search with lists */
 #define STRUCT 5 /* the place of the struct among them */
-#define PORTS 6  /* the place of the ports among them, where there are any */
-#define LIMITS 7 /* the place of the limits among them, where there are any */
 #define TABLE 0  /* the place of the table among the lists of spp_assign */
 #define DESK 1   /* the place of the desk among the lists of a call on a desk */
 #define PLACES (SPP_MOST_CREWS * SPP_MOST_VESSELS)
@@ -31,8 +28,6 @@ enum call {
     LONGEST,
     SEARCH_WITH,
     LONGEST_WITH,
-    SEARCH_PORTS,  /* spp_search_with, with ports and limits */
-    LONGEST_PORTS, /* spp_longest_with, with ports and limits */
     ASSIGN,
     UNCREWED,
     DESK_EMPTY,
@@ -40,42 +35,27 @@ enum call {
     DESK_REMOVE,
     DESK_REPLY /* takes no list */
 };
-static const char *const call_names[] = {"spp_read",
-                                         "spp_write",
-                                         "spp_write2",
-                                         "spp_check",
-                                         "spp_reduce",
-                                         "spp_search",
-                                         "spp_longest",
-                                         "spp_search_with",
-                                         "spp_longest_with",
-                                         "spp_search_with with ports",
-                                         "spp_longest_with with ports",
-                                         "spp_assign",
-                                         "spp_uncrewed",
-                                         "spp_desk_empty",
-                                         "spp_desk_add",
-                                         "spp_desk_remove",
-                                         "spp_desk_reply"};
+static const char *const call_names[] = {"spp_read",         "spp_write",       "spp_write2",    "spp_check",
+                                         "spp_reduce",       "spp_search",      "spp_longest",   "spp_search_with",
+                                         "spp_longest_with", "spp_assign",      "spp_uncrewed",  "spp_desk_empty",
+                                         "spp_desk_add",     "spp_desk_remove", "spp_desk_reply"};
 
 /* The lists of each call: how many, and the bytes of one place. */
-static const size_t list_counts[] = {4, 4, 4, 2, 3, 2, 2, 6, 6, 8, 8, 2, 2, 2, 2, 2};
-static const size_t place_sizes[][MOST_LISTS] = {{1, 4, 2, 1, 0, 0, 0, 0},
-                                                 {4, 2, 1, 1, 0, 0, 0, 0},
-                                                 {4, 2, 1, 1, 0, 0, 0, 0},
-                                                 {1, 2, 0, 0, 0, 0, 0, 0},
-                                                 {1, 4, 1, 0, 0, 0, 0, 0},
-                                                 {1, 2, 0, 0, 0, 0, 0, 0},
-                                                 {1, 2, 0, 0, 0, 0, 0, 0},
-                                                 {1, 2, 2, 2, 2, sizeof(struct spp_lists), 0, 0},
-                                                 {1, 2, 2, 2, 2, sizeof(struct spp_lists), 0, 0},
-                                                 {1, 2, 2, 2, 2, sizeof(struct spp_lists), 1, 2},
-                                                 {1, 2, 2, 2, 2, sizeof(struct spp_lists), 1, 2},
-                                                 {4, 1, 0, 0, 0, 0, 0, 0},
-                                                 {1, 2, 0, 0, 0, 0, 0, 0},
-                                                 {1, sizeof(struct spp_desk), 0, 0, 0, 0, 0, 0},
-                                                 {1, sizeof(struct spp_desk), 0, 0, 0, 0, 0, 0},
-                                                 {1, sizeof(struct spp_desk), 0, 0, 0, 0, 0, 0}};
+static const size_t list_counts[] = {4, 4, 4, 2, 3, 2, 2, 6, 6, 2, 2, 2, 2, 2};
+static const size_t place_sizes[][MOST_LISTS] = {{1, 4, 2, 1, 0, 0},
+                                                 {4, 2, 1, 1, 0, 0},
+                                                 {4, 2, 1, 1, 0, 0},
+                                                 {1, 2, 0, 0, 0, 0},
+                                                 {1, 4, 1, 0, 0, 0},
+                                                 {1, 2, 0, 0, 0, 0},
+                                                 {1, 2, 0, 0, 0, 0},
+                                                 {1, 2, 2, 2, 2, sizeof(struct spp_lists)},
+                                                 {1, 2, 2, 2, 2, sizeof(struct spp_lists)},
+                                                 {4, 1, 0, 0, 0, 0},
+                                                 {1, 2, 0, 0, 0, 0},
+                                                 {1, sizeof(struct spp_desk), 0, 0, 0, 0},
+                                                 {1, sizeof(struct spp_desk), 0, 0, 0, 0},
+                                                 {1, sizeof(struct spp_desk), 0, 0, 0, 0}};
 
 /* Example 1 of the paper, which is example 7 too: 5 rows, 8 columns, 13 entries. */
 static const int32_t costs[8] = {3, 7, 5, 8, 10, 4, 6, 9};
@@ -86,14 +66,6 @@ static const uint16_t plan[3] = {1, 4, 7}, longest_plan[3] = {2, 3, 7};
 static const uint16_t agreed[1] = {2}, absent[1] = {8};
 /* No plan has columns 1 and 5, so with this pair 1 4 7 is out. */
 static const uint16_t pairs[2] = {1, 5};
-/*
- * The ports of the columns. Of ports 1, 2, 3 and 8 the plan 1 4 7 has 2, 0, 1 and 0 columns, 2 3 7 has 0, 2, 1 and 0, 1 3 6 8 has 1, 2, 0
- * and 1, and 2 5 8 has 0, 1, 1 and 1.
- */
-static const uint8_t ports[8] = {1, 2, 2, 1, 3, 2, 3, 8};
-/* Limits that every plan meets, and some that 2 3 7 alone meets. */
-static const uint16_t any_limits[16] = {0, 0, 0, 0, 0, 0, 0, 0, 64, 64, 64, 64, 64, 64, 64, 64};
-static const uint16_t limits[16] = {0, 2, 1, 0, 0, 0, 0, 0, 1, 2, 1, 0, 0, 0, 0, 0};
 static uint8_t file[85];
 
 /* The rows of example 1 with costs for SPP2. Its plans are 1 4 7 at -5, 1 3 6 8 at -3, 2 3 7 at -1 and 2 5 8 at 1,000,003. */
@@ -146,11 +118,6 @@ static void fill_table(void) {
     }
 }
 
-/* Whether the call, a search with lists, is for the least sum. */
-static int is_sum(enum call call) {
-    return call == SEARCH_WITH || call == SEARCH_PORTS;
-}
-
 /* Calls with these lists and gives the refusal. */
 static uint32_t refusal_of(enum call call, const struct lent *l) {
     switch (call) {
@@ -185,9 +152,9 @@ static uint32_t refusal_of(enum call call, const struct lent *l) {
     case DESK_REMOVE:
         return spp_desk_remove((uint8_t *)l[0].start, l[0].count, 2, (struct spp_desk *)l[DESK].start).refusal;
     default:
-        return (is_sum(call) ? spp_search_with : spp_longest_with)((uint8_t *)l[0].start, l[0].count, 1000,
-                                                                   (struct spp_lists *)l[STRUCT].start,
-                                                                   (uint16_t *)l[PLAN].start, l[PLAN].count)
+        return (call == SEARCH_WITH ? spp_search_with : spp_longest_with)((uint8_t *)l[0].start, l[0].count, 1000,
+                                                                          (struct spp_lists *)l[STRUCT].start,
+                                                                          (uint16_t *)l[PLAN].start, l[PLAN].count)
             .refusal;
     }
 }
@@ -206,16 +173,6 @@ static struct spp_lists lists_of(const void *agreed_start, size_t agreed_count, 
     return lists;
 }
 
-/* The same with ports and limits. */
-static struct spp_lists with_ports(struct spp_lists lists, const void *ports_start, size_t port_count,
-                                   const void *limits_start, size_t limit_count) {
-    lists.ports = (const uint8_t *)ports_start;
-    lists.port_count = port_count;
-    lists.limits = (const uint16_t *)limits_start;
-    lists.limit_count = limit_count;
-    return lists;
-}
-
 /* Whether the call is one of the two writers. */
 static int is_writer(enum call call) {
     return call == WRITE || call == WRITE2;
@@ -224,11 +181,6 @@ static int is_writer(enum call call) {
 /* Whether the call takes a struct. */
 static int has_struct(enum call call) {
     return list_counts[call] > STRUCT;
-}
-
-/* Whether ports and limits are lent to the call. */
-static int has_ports(enum call call) {
-    return list_counts[call] > PORTS;
 }
 
 /* Whether the call takes a desk and a file. */
@@ -241,24 +193,21 @@ static size_t uncounted(enum call call) {
     return call == ASSIGN ? TABLE : has_desk(call) ? DESK : has_struct(call) ? STRUCT : MOST_LISTS;
 }
 
-/* Puts the agreed and absent lists, the pairs, the ports and the limits that are lent into the struct that is lent. */
+/* Puts the agreed and absent lists and the pairs that are lent into the struct that is lent. */
 static void put_struct(enum call call, const struct lent *l) {
     if (has_struct(call) && l[STRUCT].start) {
         struct spp_lists lists = lists_of(l[1].start, l[1].count, l[2].start, l[2].count, l[3].start, l[3].count);
-        if (has_ports(call)) {
-            lists = with_ports(lists, l[PORTS].start, l[PORTS].count, l[LIMITS].start, l[LIMITS].count);
-        }
         memcpy(l[STRUCT].start, &lists, sizeof lists);
     }
 }
 
 /* Fills the block with a pattern and lends each list at a place of its own, with what an accepted call needs. */
 static void lend(enum call call, struct lent *l) {
-    static const size_t counts[][MOST_LISTS] = {
-        {85, 8, 8, 13, 0, 0, 0, 0}, {8, 8, 13, 85, 0, 0, 0, 0}, {8, 8, 13, 85, 0, 0, 0, 0}, {85, 3, 0, 0, 0, 0, 0, 0},
-        {85, 8, 5, 0, 0, 0, 0, 0},  {85, 5, 0, 0, 0, 0, 0, 0},  {85, 5, 0, 0, 0, 0, 0, 0},  {85, 1, 1, 2, 5, 1, 0, 0},
-        {85, 1, 1, 2, 5, 1, 0, 0},  {85, 1, 1, 2, 5, 1, 8, 16}, {85, 1, 1, 2, 5, 1, 8, 16}, {PLACES, 8, 0, 0, 0, 0, 0, 0},
-        {85, 5, 0, 0, 0, 0, 0, 0},  {85, 1, 0, 0, 0, 0, 0, 0},  {85, 1, 0, 0, 0, 0, 0, 0},  {85, 1, 0, 0, 0, 0, 0, 0}};
+    static const size_t counts[][MOST_LISTS] = {{85, 8, 8, 13, 0, 0},    {8, 8, 13, 85, 0, 0}, {8, 8, 13, 85, 0, 0},
+                                                {85, 3, 0, 0, 0, 0},     {85, 8, 5, 0, 0, 0},  {85, 5, 0, 0, 0, 0},
+                                                {85, 5, 0, 0, 0, 0},     {85, 1, 1, 2, 5, 1},  {85, 1, 1, 2, 5, 1},
+                                                {PLACES, 8, 0, 0, 0, 0}, {85, 5, 0, 0, 0, 0},  {85, 1, 0, 0, 0, 0},
+                                                {85, 1, 0, 0, 0, 0},     {85, 1, 0, 0, 0, 0}};
     size_t i;
     for (i = 0; i < BLOCK; i++) {
         block.bytes[i] = (uint8_t)(i * 5 + 77);
@@ -284,10 +233,6 @@ static void lend(enum call call, struct lent *l) {
         memcpy(l[2].start, absent, sizeof absent);
         memcpy(l[3].start, pairs, sizeof pairs);
     }
-    if (has_ports(call)) {
-        memcpy(l[PORTS].start, ports, sizeof ports);
-        memcpy(l[LIMITS].start, limits, sizeof limits);
-    }
 }
 
 /* The call must refuse with this number and leave the whole block as it was. */
@@ -298,12 +243,8 @@ static void refuses(enum call call, const struct lent *l, uint32_t wanted, const
     holds(memcmp(&before, &block, sizeof block) == 0, call, "a refusal touched a list");
 }
 
-/* The call must not be refused by a guard, but for ports or limits that are lent to the search for the longest duty. */
+/* The call must not be refused by a guard. */
 static void enters(enum call call, const struct lent *l, const char *what) {
-    if (call == LONGEST_PORTS && (l[PORTS].count > 0 || l[LIMITS].count > 0)) {
-        refuses(call, l, SPP_PORTS_NOT_TAKEN, what);
-        return;
-    }
     put_struct(call, l);
     holds(refusal_of(call, l) < SPP_OVERLAP, call, what);
 }
@@ -413,10 +354,8 @@ static void accepted_search(enum call call, const uint8_t *bytes, uint32_t node_
                             struct spp_answer wanted, const char *what) {
     uint16_t found[5], core_found[5], empty[3] = {0, 0, 0};
     struct spp_answer answer = (call == SEARCH ? spp_search : spp_longest)(bytes, 85, node_limit, found, 5);
-    struct spp_answer core_answer =
-        call == SEARCH ? spp_core_search(bytes, 85, node_limit, empty, 0, empty + 1, 0, empty + 2, 0, ports, 8, any_limits,
-                                         16, core_found, 5)
-                       : spp_core_longest(bytes, 85, node_limit, empty, 0, empty + 1, 0, empty + 2, 0, core_found, 5);
+    struct spp_answer core_answer = (call == SEARCH ? spp_core_search : spp_core_longest)(
+        bytes, 85, node_limit, empty, 0, empty + 1, 0, empty + 2, 0, core_found, 5);
     size_t size = wanted.columns * sizeof *plan;
     holds(equal_answers(answer, wanted) && !memcmp(found, wanted_plan, size), call, what);
     holds(equal_answers(answer, core_answer) && !memcmp(found, core_found, size), call, "header and engine");
@@ -458,6 +397,7 @@ static void refused_lists(enum call call, search_with search) {
 /* Searches of a file of example 1's rows with lists: a struct of zeros gives the answer without, and other lists the stated answers. */
 static void accepted_lists(enum call call, const uint8_t *bytes, int64_t price, struct spp_answer with_pairs) {
     const search_with search = call == SEARCH_WITH ? spp_search_with : spp_longest_with;
+    const spp_core_call core = call == SEARCH_WITH ? spp_core_search : spp_core_longest;
     struct spp_answer wanted = {0, SPP_BEST, 1, 3, 1, price, price};
     struct spp_lists none = lists_of(NULL, 0, NULL, 0, NULL, 0), lists = lists_of(agreed, 1, absent, 1, NULL, 0);
     uint16_t found[5], former_found[5], empty[2] = {0, 0};
@@ -469,9 +409,7 @@ static void accepted_lists(enum call call, const uint8_t *bytes, int64_t price, 
     lists = lists_of(NULL, 0, NULL, 0, pairs, 2);
     answer = search(bytes, 85, 1000, &lists, found, 5);
     holds(equal_answers(answer, with_pairs) && !memcmp(found, longest_plan, sizeof plan), call, "1 needs 5");
-    former = call == SEARCH_WITH ? spp_core_search(bytes, 85, 1000, empty, 0, empty + 1, 0, pairs, 2, ports, 8, any_limits,
-                                                   16, former_found, 5)
-                                 : spp_core_longest(bytes, 85, 1000, empty, 0, empty + 1, 0, pairs, 2, former_found, 5);
+    former = core(bytes, 85, 1000, empty, 0, empty + 1, 0, pairs, 2, former_found, 5);
     holds(equal_answers(answer, former) && !memcmp(found, former_found, sizeof plan), call, "pairs, header and engine");
     refused_lists(call, search);
 }
@@ -488,7 +426,7 @@ static void column_in_both(enum call call, const uint8_t *bytes, int64_t price) 
     holds(equal_answers(answer, wanted) && !memcmp(found, found_alone, sizeof plan), call, "2 agreed and absent, and 2 absent");
 }
 
-/* A struct that gives the first four or six fields by their places, as a plug-in may, has no pairs, and no ports and limits. */
+/* A struct that gives the first four fields by their places, as a plug-in may, has no pairs. */
 #pragma GCC diagnostic push
 #pragma GCC diagnostic ignored "-Wmissing-field-initializers"
 static void four_fields(enum call call, const uint8_t *bytes, int64_t price) {
@@ -499,145 +437,7 @@ static void four_fields(enum call call, const uint8_t *bytes, int64_t price) {
     holds(lists.pairs == NULL && lists.pair_count == 0, call, "four fields given, no pairs");
     holds(equal_answers(answer, wanted) && !memcmp(found, longest_plan, sizeof plan), call, "four fields given");
 }
-
-static void six_fields(enum call call, const uint8_t *bytes, struct spp_answer wanted) {
-    const struct spp_lists lists = {NULL, 0, NULL, 0, pairs, 2};
-    uint16_t found[5];
-    struct spp_answer answer =
-        (call == SEARCH_WITH ? spp_search_with : spp_longest_with)(bytes, 85, 1000, &lists, found, 5);
-    holds(!lists.ports && lists.port_count == 0 && !lists.limits && lists.limit_count == 0, call,
-          "six fields given, no ports");
-    holds(equal_answers(answer, wanted) && !memcmp(found, longest_plan, sizeof plan), call, "six fields given");
-}
 #pragma GCC diagnostic pop
-
-/* Limits for the ports of a file of example 1's rows, with the node limit, the stated answer and the plan. */
-struct share {
-    uint16_t limits[16];
-    uint32_t node_limit;
-    struct spp_answer answer;
-    uint16_t plan[4];
-    const char *what;
-};
-
-/* Example 1. */
-static const struct share shares[] = {
-    {{0, 0, 0, 0, 0, 0, 0, 0, 64, 64, 64, 64, 64, 64, 64, 64}, 1000, {0, SPP_BEST, 1, 3, 3, 17, 17}, {1, 4, 7}, "limits that ask nothing"},
-    {{2, 0, 1, 0, 0, 0, 0, 0, 2, 0, 1, 0, 0, 0, 0, 0}, 1000, {0, SPP_BEST, 1, 3, 3, 17, 17}, {1, 4, 7}, "least and greatest alike"},
-    {{0, 0, 0, 0, 0, 0, 0, 0, 1, 64, 64, 64, 64, 64, 64, 64}, 1000, {0, SPP_BEST, 1, 3, 4, 18, 17}, {2, 3, 7}, "port 1, at most 1"},
-    {{0, 0, 0, 0, 0, 0, 0, 1, 64, 64, 64, 64, 64, 64, 64, 64}, 1000, {0, SPP_BEST, 1, 4, 4, 21, 17}, {1, 3, 6, 8}, "port 8, at least 1"},
-    {{0, 1, 0, 0, 0, 0, 0, 1, 256, 1, 256, 64, 64, 64, 64, 65535}, 1000, {0, SPP_BEST, 1, 3, 5, 26, 17}, {2, 5, 8}, "port 2, exactly 1"},
-    {{0, 0, 0, 0, 0, 0, 0, 0, 1, 64, 64, 64, 64, 64, 64, 64}, 2, {0, SPP_STOPPED, 0, 0, 2, 0, 17}, {0}, "stopped without a plan"},
-    {{0, 0, 0, 1, 0, 0, 0, 0, 64, 64, 64, 64, 64, 64, 64, 64}, 1000, {0, SPP_NONE, 0, 0, 1, 0, 0}, {0}, "port 4, which has no column"},
-    {{65535, 0, 0, 0, 0, 0, 0, 0, 65535, 0, 0, 0, 0, 0, 0, 0}, 1000, {0, SPP_NONE, 0, 0, 1, 0, 0}, {0}, "more than there are columns"},
-    {{0, 256, 0, 0, 0, 0, 0, 0, 64, 256, 64, 64, 64, 64, 64, 64}, 1000, {0, SPP_NONE, 0, 0, 1, 0, 0}, {0}, "port 2, at least 256"},
-    {{0, 0, 0, 0, 0, 0, 0, 0, 64, 64, 0, 64, 64, 64, 64, 0}, 1000, {0, SPP_NONE, 0, 0, 3, 0, 0}, {0}, "ports 3 and 8, at most 0"},
-};
-
-/* The same rows in SPP2. */
-static const struct share earning_shares[] = {
-    {{0, 0, 0, 0, 0, 0, 0, 0, 64, 64, 64, 64, 64, 64, 64, 64}, 1000, {0, SPP_BEST, 1, 3, 3, -5, -5}, {1, 4, 7}, "limits that ask nothing"},
-    {{0, 0, 0, 0, 0, 0, 0, 0, 1, 64, 64, 64, 64, 64, 64, 64}, 1000, {0, SPP_BEST, 1, 4, 4, -3, -5}, {1, 3, 6, 8}, "port 1, at most 1"},
-    {{0, 0, 0, 0, 0, 0, 0, 0, 0, 64, 64, 64, 64, 64, 64, 64}, 1000, {0, SPP_BEST, 1, 3, 4, -1, -5}, {2, 3, 7}, "port 1, at most 0"},
-    {{0, 0, 0, 0, 0, 0, 0, 0, 1, 1, 64, 64, 64, 64, 64, 64}, 1000, {0, SPP_BEST, 1, 3, 7, 1000003, -5}, {2, 5, 8}, "port 2, at most 1"},
-    {{0, 0, 2, 0, 0, 0, 0, 0, 64, 64, 64, 64, 64, 64, 64, 64}, 1000, {0, SPP_NONE, 0, 0, 7, 0, 0}, {0}, "port 3, at least 2"},
-};
-
-/* Searches with ports and limits through the header, and by the engine: the stated answers and plans, and no other place filled in. */
-static void accepted_ports(const uint8_t *bytes, const struct share *cases_of, size_t count) {
-    const uint16_t empty[3] = {0, 0, 0};
-    struct spp_lists lists;
-    uint16_t found[5], core_found[5], wanted[5];
-    struct spp_answer a, b;
-    size_t i;
-    for (i = 0; i < count; i++) {
-        const struct share c = cases_of[i];
-        memset(found, 0xa5, sizeof found);
-        memset(core_found, 0xa5, sizeof core_found);
-        memset(wanted, 0xa5, sizeof wanted);
-        memcpy(wanted, c.plan, c.answer.columns * sizeof *c.plan);
-        lists = with_ports(lists_of(NULL, 0, NULL, 0, NULL, 0), ports, 8, c.limits, 16);
-        a = spp_search_with(bytes, 85, c.node_limit, &lists, found, 5);
-        b = spp_core_search(bytes, 85, c.node_limit, empty, 0, empty + 1, 0, empty + 2, 0, ports, 8, c.limits, 16,
-                            core_found, 5);
-        holds(equal_answers(a, c.answer) && !memcmp(found, wanted, sizeof found), SEARCH_PORTS, c.what);
-        holds(equal_answers(b, c.answer) && !memcmp(core_found, wanted, sizeof found), SEARCH_PORTS, c.what);
-    }
-}
-
-/* The refusal of a search of example 1 with these lists. */
-static void refuses_ports(struct spp_lists lists, uint32_t wanted, const char *what) {
-    uint16_t found[5], untouched[5];
-    struct spp_answer answer, refused = {wanted, 0, 0, 0, 0, 0, 0};
-    memset(found, 0xa5, sizeof found);
-    memset(untouched, 0xa5, sizeof untouched);
-    answer = spp_search_with(file, 85, 1000, &lists, found, 5);
-    holds(equal_answers(answer, refused) && !memcmp(found, untouched, sizeof found), SEARCH_PORTS, what);
-}
-
-/* Refusals of ports and limits through the header, in their sequence after the other lists. */
-static void refused_ports(void) {
-    const struct spp_lists none = lists_of(NULL, 0, NULL, 0, NULL, 0);
-    const uint16_t twice[2] = {2, 2};
-    uint8_t other[9];
-    uint16_t others[17];
-    size_t i;
-    memcpy(other, ports, sizeof ports);
-    other[8] = 1;
-    memcpy(others, any_limits, sizeof any_limits);
-    others[16] = 64;
-    refuses_ports(with_ports(none, ports, 8, NULL, 0), SPP_BAD_PORT, "ports without limits");
-    refuses_ports(with_ports(none, NULL, 0, any_limits, 16), SPP_BAD_PORT, "limits without ports");
-    refuses_ports(with_ports(none, ports, 7, any_limits, 16), SPP_BAD_PORT, "7 ports of 8");
-    refuses_ports(with_ports(none, other, 9, any_limits, 16), SPP_BAD_PORT, "9 ports of 8");
-    refuses_ports(with_ports(none, ports, 8, any_limits, 15), SPP_BAD_PORT, "15 limits");
-    refuses_ports(with_ports(none, ports, 8, others, 17), SPP_BAD_PORT, "17 limits");
-    for (i = 0; i < 3; i++) {
-        static const uint8_t bad[3] = {0, 9, 255};
-        other[7] = bad[i];
-        others[0] = 65;
-        refuses_ports(with_ports(none, other, 8, any_limits, 16), SPP_BAD_PORT, "port 0, 9 or 255");
-        refuses_ports(with_ports(none, other, 8, others, 16), SPP_BAD_PORT, "a bad port, and a least above its greatest");
-    }
-    for (i = 0; i < 8; i++) {
-        memcpy(others, any_limits, sizeof any_limits);
-        others[i] = 65;
-        refuses_ports(with_ports(none, ports, 8, others, 16), SPP_BAD_SHARE, "a least of 65 above its greatest of 64");
-        refuses_ports(with_ports(none, ports, 8, others, 17), SPP_BAD_PORT, "17 limits, and a least above its greatest");
-        refuses_ports(with_ports(lists_of(agreed, 1, absent, 1, pairs, 1), ports, 7, others, 16), SPP_BAD_PAIR_COUNT,
-                      "one number in the list of pairs, and bad ports");
-        refuses_ports(with_ports(lists_of(agreed, 1, absent, 1, twice, 2), ports, 7, others, 16), SPP_BAD_PAIR,
-                      "a pair of a column and itself, and bad ports");
-    }
-}
-
-/* Ports or limits lent to the search for the longest duty are refused before its file, node limit and plan list are looked at. */
-static void ports_of_longest(void) {
-    const struct spp_lists none = lists_of(NULL, 0, NULL, 0, NULL, 0);
-    const struct spp_answer refused = {SPP_PORTS_NOT_TAKEN, 0, 0, 0, 0, 0, 0};
-    const struct spp_lists lent[5] = {with_ports(none, ports, 8, any_limits, 16), with_ports(none, ports, 8, NULL, 0),
-                                      with_ports(none, NULL, 0, any_limits, 16), with_ports(none, ports, 1, any_limits, 0),
-                                      with_ports(none, ports, 0, any_limits, 1)};
-    const struct spp_lists empty = with_ports(none, ports, 0, any_limits, 0);
-    const struct spp_answer by_longest = {0, SPP_BEST, 1, 3, 3, 7, 6};
-    uint16_t found[5], untouched[5];
-    size_t i;
-    memset(found, 0xa5, sizeof found);
-    memset(untouched, 0xa5, sizeof untouched);
-    for (i = 0; i < 5; i++) {
-        holds(equal_answers(spp_longest_with(file, 85, 1000, &lent[i], found, 5), refused), LONGEST_PORTS,
-              "ports or limits");
-        holds(equal_answers(spp_longest_with(file, 84, 0, &lent[i], found, 4), refused), LONGEST_PORTS,
-              "and bad arguments");
-        holds(equal_answers(spp_longest_with(NULL, 0, 0, &lent[i], NULL, 0), refused), LONGEST_PORTS, "and no file");
-        holds(equal_answers(spp_longest_with(earning_file, 85, 1000, &lent[i], found, 5), refused), LONGEST_PORTS,
-              "and an SPP2 file");
-        holds(!memcmp(found, untouched, sizeof found), LONGEST_PORTS, "a refusal touched a list");
-    }
-    holds(equal_answers(spp_longest_with(file, 85, 1000, &empty, found, 5), by_longest), LONGEST_WITH,
-          "empty ports and limits");
-    holds(!memcmp(found, longest_plan, sizeof longest_plan), LONGEST_WITH, "empty ports and limits, the plan");
-}
 
 /* An answer list at an offset from the table's first byte, and the refusal, 0 for none. */
 static const struct {
@@ -1152,8 +952,6 @@ static void accepted_spp2(void) {
     accepted_lists(SEARCH_WITH, earning_file, -1, with_pairs);
     column_in_both(SEARCH_WITH, earning_file, -5);
     four_fields(SEARCH_WITH, earning_file, -1);
-    six_fields(SEARCH_WITH, earning_file, with_pairs);
-    accepted_ports(earning_file, earning_shares, sizeof earning_shares / sizeof *earning_shares);
     lay_out(2, late, late_file);
     accepted_search(SEARCH, late_file, 1000, late_plan, best_late, "a better plan found later");
     accepted_search(SEARCH, late_file, 5, early_plan, stopped, "stopped with a plan below 0");
@@ -1188,11 +986,6 @@ static void accepted(void) {
     column_in_both(LONGEST_WITH, file, 8);
     four_fields(SEARCH_WITH, file, 18);
     four_fields(LONGEST_WITH, file, 7);
-    six_fields(SEARCH_WITH, file, pairs_by_sum);
-    six_fields(LONGEST_WITH, file, pairs_by_longest);
-    accepted_ports(file, shares, sizeof shares / sizeof *shares);
-    refused_ports();
-    ports_of_longest();
     accepted_assign();
     accepted_uncrewed();
     accepted_desk(over, 17);
@@ -1215,7 +1008,7 @@ int main(void) {
     for (call = READ; call < DESK_REPLY; call++) {
         two_lists((enum call)call);
         nulls((enum call)call);
-        if (!is_writer((enum call)call) && call != ASSIGN && call != LONGEST_PORTS) {
+        if (!is_writer((enum call)call) && call != ASSIGN) {
             editions((enum call)call);
         }
     }

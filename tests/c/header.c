@@ -6,14 +6,7 @@ typedef struct spp_answer (*search)(const uint8_t *, size_t, uint32_t, uint16_t 
 const search spp_header_searches[2] = {spp_search, spp_longest};
 typedef struct spp_answer (*search_with)(const uint8_t *, size_t, uint32_t, const struct spp_lists *, uint16_t *, size_t);
 const search_with spp_header_searches_with[2] = {spp_search_with, spp_longest_with};
-/* The engine's search takes ports and limits, and the one for the longest duty does not. */
-typedef struct spp_answer (*core_search)(const uint8_t *, size_t, uint32_t, const uint16_t *, size_t, const uint16_t *,
-                                         size_t, const uint16_t *, size_t, const uint8_t *, size_t, const uint16_t *,
-                                         size_t, uint16_t *, size_t);
-const core_search spp_header_core_search = spp_core_search;
-typedef struct spp_answer (*core_longest)(const uint8_t *, size_t, uint32_t, const uint16_t *, size_t, const uint16_t *,
-                                          size_t, const uint16_t *, size_t, uint16_t *, size_t);
-const core_longest spp_header_core_longest = spp_core_longest;
+const spp_core_call spp_header_core_searches[2] = {spp_core_search, spp_core_longest};
 /* The engine's call and the guarded one are called alike. */
 typedef struct spp_shape (*reader)(const uint8_t *, size_t, int32_t *, size_t, uint16_t *, size_t, uint8_t *, size_t);
 const reader spp_header_readers[2] = {spp_read, spp_core_read};
@@ -33,14 +26,12 @@ typedef struct spp_written (*writer)(uint16_t, const int32_t *, size_t, const ui
 const writer spp_header_writers[4] = {spp_write, spp_write2, spp_core_write, spp_core_write2};
 const spp_core_writer spp_header_core_writers[2] = {spp_core_write, spp_core_write2};
 
-/* The layout of struct spp_lists, as a type that is in error if it differs: ten fields without a gap. */
+/* The layout of struct spp_lists, as a type that is in error if it differs: six fields without a gap. */
 #define WORDS_BEFORE(field) (offsetof(struct spp_lists, field) / sizeof(size_t))
 typedef char spp_header_lists_layout[WORDS_BEFORE(agreed) == 0 && WORDS_BEFORE(agreed_count) == 1 &&
                                              WORDS_BEFORE(absent) == 2 && WORDS_BEFORE(absent_count) == 3 &&
                                              WORDS_BEFORE(pairs) == 4 && WORDS_BEFORE(pair_count) == 5 &&
-                                             WORDS_BEFORE(ports) == 6 && WORDS_BEFORE(port_count) == 7 &&
-                                             WORDS_BEFORE(limits) == 8 && WORDS_BEFORE(limit_count) == 9 &&
-                                             sizeof(struct spp_lists) == 10 * sizeof(size_t)
+                                             sizeof(struct spp_lists) == 6 * sizeof(size_t)
                                          ? 1
                                          : -1];
 
@@ -116,10 +107,6 @@ typedef char spp_header_answer_layout[BYTES_OF_ANSWER(refusal) == 0 && BYTES_OF_
 /* The ranges of costs, as a type that is in error if they differ. */
 typedef char spp_header_costs[SPP_LEAST_COST == -1000000 && SPP_MOST_COST == 1000000 ? 1 : -1];
 
-/* The largest port, the number of limits, and the numbers of refusals that have to do with them, in the same way. */
-typedef char spp_header_ports[SPP_MOST_PORTS == 8 && SPP_LIMIT_COUNT == 16 ? 1 : -1];
-typedef char spp_header_port_refusals[SPP_BAD_PORT == 22 && SPP_BAD_SHARE == 23 && SPP_PORTS_NOT_TAKEN == 102 ? 1 : -1];
-
 /* The types of prices and lower bounds, and of the edition: the address of a field of another type, unsigned or not, is in error. */
 void spp_header_types(struct spp_checked *checked, struct spp_reduced *reduced, struct spp_answer *answer, int64_t *out[4]) {
     out[0] = &checked->price;
@@ -129,21 +116,6 @@ void spp_header_types(struct spp_checked *checked, struct spp_reduced *reduced, 
 }
 uint32_t *spp_header_edition(struct spp_shape *shape) {
     return &shape->edition;
-}
-
-/* The types of the lists of a search, in the same way. */
-void spp_header_list_types(struct spp_lists *lists, const uint16_t **numbers[4], const uint8_t **ports[1],
-                           size_t *counts[5]) {
-    numbers[0] = &lists->agreed;
-    numbers[1] = &lists->absent;
-    numbers[2] = &lists->pairs;
-    numbers[3] = &lists->limits;
-    ports[0] = &lists->ports;
-    counts[0] = &lists->agreed_count;
-    counts[1] = &lists->absent_count;
-    counts[2] = &lists->pair_count;
-    counts[3] = &lists->port_count;
-    counts[4] = &lists->limit_count;
 }
 
 int spp_header_compiles(void) {

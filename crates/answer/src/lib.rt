@@ -1,4 +1,5 @@
 // The answer of a search that has ended, and the plan that it shows, written into a list.
+#![tactic(auto)]
 ghost use Rattle.std.specs.Prelude.{◌≡◌, map, suc, length};
 ghost use Rattle.refusals.specs.Refusals.{accepted, front};
 ghost use Rattle.rules.specs.Search.{shown_by};
@@ -11,7 +12,7 @@ use refusals::Refusal;
 use solver::Solved;
 
 // A plan that is shown.
-#[derive(Drop)]
+#[derive(Clone, Copy)]
 pub struct Found {
     // 01's price.
     pub cost: i64,
@@ -23,7 +24,7 @@ pub struct Found {
 }
 
 // The node limit is reached and no plan is kept.
-#[derive(Drop)]
+#[derive(Clone, Copy)]
 pub struct Halted {
     // 01's root floor.
     pub bound: i64,
@@ -31,7 +32,7 @@ pub struct Halted {
 }
 
 // What a search of a file comes to.
-#[derive(Drop)]
+#[derive(Clone, Copy)]
 pub enum SearchAnswer {
     // The cheapest plan.
     Best(Found),

@@ -1,4 +1,5 @@
 // The choice of the row to branch on, and the bound of the branch without the column.
+#![tactic(auto)]
 ghost use Rattle.std.specs.Prelude.{◌≡◌, [], ◌+◌, ◌≤◌, ◌<◌, length};
 ghost use Rattle.node.specs.Passes.{better};
 ghost use Rattle.rules.specs.Tree.{above_p};
@@ -9,7 +10,7 @@ ghost use Rattle.choice.specs.Row.{penalty_at, branch_row, precedes, best_row, b
 use node::{row_count, row_part};
 
 // What the choice of the row looks at in an open row.
-#[derive(Drop)]
+#[derive(Clone, Copy)]
 pub struct BranchRow {
     // How many free columns at cost 0 the row has.
     pub zeros: u32,

@@ -1,4 +1,5 @@
 // The choice of the column to branch on.
+#![tactic(auto)]
 ghost use Rattle.std.specs.Prelude.{◌≡◌, []};
 ghost use Rattle.node.specs.Lists.{keep};
 ghost use Rattle.node.specs.Stored.{matrix_in, Kept, HasRow, HasColumn, Columns};
@@ -31,7 +32,7 @@ fn only_zero(cost: &[u32; 256], column: &[u8; 256], columns: &[u16]) -> usize
 }
 
 // What the choice of the column looks at in a column.
-#[derive(Drop)]
+#[derive(Clone, Copy)]
 pub struct BranchColumn {
     // How many free columns at cost 0 share a row with it, itself included (01: C).
     pub share: u32,

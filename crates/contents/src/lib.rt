@@ -1,5 +1,6 @@
 // A reader of a file's contents: it holds the file and the number of the next entry. `entries`, whose parameters
 // are plain, walks a file forward with it.
+#![tactic(auto)]
 ghost use Rattle.std.specs.Prelude.{◌≡◌, ◌+◌, ◌*◌, ◌≤◌, length, take, drop};
 ghost use Rattle.refusals.specs.Refusals.{fine};
 ghost use Rattle.dutyfile.specs.File.{columns_in, bodies_at, entry_of, entries};
@@ -7,7 +8,7 @@ ghost use Rattle.dutyfile.specs.Faults.{header_fault};
 
 use dutyfile::Entry;
 
-#[derive(Drop)]
+#[derive(Clone, Copy)]
 pub struct Reader<'a> {
     pub file: &'a [u8],
     // The number of the next entry.

@@ -1,4 +1,5 @@
 // The running plan on the desk (02, P7): columns are added and removed one by one, and what they cover and cost is kept.
+#![tactic(auto)]
 ghost use Rattle.std.specs.Prelude.{◌≡◌, true, ◌-◌, ◌<◌, drop, replicate};
 ghost use Rattle.refusals.specs.Refusals.{fault_of, unless};
 ghost use Rattle.dutyfile.specs.File.{bodies_at, entry_of};
@@ -13,14 +14,14 @@ use examine::ReadAnswer;
 use refusals::{Check, Refusal};
 
 // What a step does with its column.
-#[derive(Drop)]
+#[derive(Clone, Copy)]
 pub enum Way {
     Adding,
     Removing,
 }
 
 // What a step comes to.
-#[derive(Drop)]
+#[derive(Clone, Copy)]
 pub enum StepAnswer {
     Changed,
     // The column to add is in already, or the one to remove is not in.
@@ -29,7 +30,7 @@ pub enum StepAnswer {
 }
 
 // Whether the columns that are in are a plan.
-#[derive(Drop)]
+#[derive(Clone, Copy)]
 pub enum ReplyAnswer {
     // The plan's cost, 01's price.
     Plan(i32),
@@ -37,7 +38,7 @@ pub enum ReplyAnswer {
 }
 
 // The entry of a column of a file.
-#[derive(Drop)]
+#[derive(Clone, Copy)]
 enum ColumnAnswer {
     At(Entry),
     Refused(Refusal),

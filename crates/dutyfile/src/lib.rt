@@ -1,4 +1,5 @@
 // The duty file's entries, and the tests that reader and writer share.
+#![tactic(auto)]
 ghost use Rattle.std.specs.Prelude.{◌≡◌, ◌+◌, ◌*◌, ◌≤◌, length, take, drop, replicate};
 ghost use Rattle.endian.specs.Bytes.{same};
 ghost use Rattle.refusals.specs.Refusals.{fault_of};
@@ -8,14 +9,14 @@ ghost use Rattle.dutyfile.specs.Faults.{least_cost, is_cost, column_fault, count
 use refusals::{Check, Refusal};
 
 // What a file begins with: SPP1, or SPP2 (02, P10), whose costs may be 0 and below.
-#[derive(Drop)]
+#[derive(Clone, Copy)]
 pub enum Edition {
     Spp1,
     Spp2,
 }
 
 // A contents entry.
-#[derive(Drop)]
+#[derive(Clone, Copy)]
 pub struct Entry {
     // The 32 bits of 01's price.
     pub cost: u32,
@@ -26,7 +27,7 @@ pub struct Entry {
 }
 
 // What an accepted file holds: its edition, and 01's m, n and t.
-#[derive(Drop)]
+#[derive(Clone, Copy)]
 pub struct Shape {
     pub edition: Edition,
     pub rows: usize,
@@ -35,7 +36,7 @@ pub struct Shape {
 }
 
 // What a walk over the contents comes to.
-#[derive(Drop)]
+#[derive(Clone, Copy)]
 pub enum Contents {
     // The number of row numbers in all bodies, 01's t.
     Rows(usize),

@@ -1,4 +1,5 @@
 // The tests of a file, 1 to 9, in 01's sequence.
+#![tactic(auto)]
 ghost use Rattle.std.specs.Prelude.{◌≡◌, ◌||◌, ◌+◌, ◌*◌, take};
 ghost use Rattle.endian.specs.Bytes.{same};
 ghost use Rattle.refusals.specs.Refusals.{fine, fault_of, unless};
@@ -12,7 +13,7 @@ use dutyfile::{Contents, Edition, Shape};
 use refusals::{Check, Refusal};
 
 // What reading a file comes to.
-#[derive(Drop)]
+#[derive(Clone, Copy)]
 pub enum ReadAnswer {
     Accepted(Shape),
     Refused(Refusal),

@@ -1,4 +1,5 @@
 // The answers of the calls as structs of numbers for C, with 0 in each field that the answer has no value for.
+#![tactic(auto)]
 ghost use Rattle.std.specs.Prelude.{◌≡◌};
 ghost use Rattle.examine.specs.Answer.{read_outcome};
 ghost use Rattle.writer.specs.Answer.{write_outcome};
@@ -17,7 +18,7 @@ use writer::WriteAnswer;
 
 // What reading comes to: 01's m, n and t, and the edition.
 #[repr(C)]
-#[derive(Drop)]
+#[derive(Clone, Copy)]
 pub struct SppShape {
     // 01's number of a refusal, or 0 where the call is accepted; so in each struct.
     pub refusal: u32,
@@ -30,7 +31,7 @@ pub struct SppShape {
 
 // What writing comes to: the file's length.
 #[repr(C)]
-#[derive(Drop)]
+#[derive(Clone, Copy)]
 pub struct SppWritten {
     pub refusal: u32,
     pub length: u32,
@@ -38,7 +39,7 @@ pub struct SppWritten {
 
 // What checking an offered plan comes to.
 #[repr(C)]
-#[derive(Drop)]
+#[derive(Clone, Copy)]
 pub struct SppChecked {
     pub refusal: u32,
     // 1 for a plan, else 0.
@@ -52,7 +53,7 @@ pub struct SppChecked {
 
 // What reducing comes to.
 #[repr(C)]
-#[derive(Drop)]
+#[derive(Clone, Copy)]
 pub struct SppReduced {
     pub refusal: u32,
     // 01's sailings used.
@@ -174,7 +175,7 @@ pub fn flat_reduced(answer: ReduceAnswer) -> SppReduced
 
 // What searching comes to.
 #[repr(C)]
-#[derive(Drop)]
+#[derive(Clone, Copy)]
 pub struct SppAnswer {
     pub refusal: u32,
     // 1 best, 2 none, 3 stopped.

@@ -1,4 +1,5 @@
 // The assigning call's answer as a struct of numbers for C, with 0 in each field that the answer has no value for.
+#![tactic(auto)]
 ghost use Rattle.std.specs.Prelude.{◌≡◌};
 ghost use Rattle.assign.specs.Answer.{assign_outcome};
 ghost use Rattle.flat_assign.specs.Struct.{assigned_of};
@@ -7,7 +8,7 @@ use assign::AssignAnswer;
 
 // What assigning crews to vessels comes to.
 #[repr(C)]
-#[derive(Drop)]
+#[derive(Clone, Copy)]
 pub struct SppAssigned {
     // 02's number of a refusal, or 0 where the call is accepted.
     pub refusal: u32,

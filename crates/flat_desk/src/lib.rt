@@ -1,4 +1,5 @@
 // The answers of the desk's calls as numbers for C, with 0 in each field that an answer has no value for.
+#![tactic(auto)]
 ghost use Rattle.std.specs.Prelude.{◌≡◌};
 ghost use Rattle.refusals.specs.Refusals.{fault_of};
 ghost use Rattle.desk.specs.Steps.{step_outcome};
@@ -9,7 +10,7 @@ use refusals::Check;
 
 // What a step did.
 #[repr(C)]
-#[derive(Drop)]
+#[derive(Clone, Copy)]
 pub struct SppStep {
     // 01's or 02's number of a refusal, or 0 where the step is accepted.
     pub refusal: u32,
@@ -19,7 +20,7 @@ pub struct SppStep {
 
 // Whether the columns that are in are a plan.
 #[repr(C)]
-#[derive(Drop)]
+#[derive(Clone, Copy)]
 pub struct SppReply {
     // 0: nothing is refused.
     pub refusal: u32,

@@ -1,5 +1,6 @@
 // The answer of the call for sailings that can't be crewed as a struct of numbers for C, with 0 in each field that the answer has no value
 // for.
+#![tactic(auto)]
 ghost use Rattle.std.specs.Prelude.{◌≡◌};
 ghost use Rattle.uncrewed.specs.Answer.{uncrewed_outcome};
 ghost use Rattle.flat_uncrewed.specs.Struct.{uncrewed_of};
@@ -8,7 +9,7 @@ use uncrewed::UncrewedAnswer;
 
 // Which sailings of a file can't be crewed.
 #[repr(C)]
-#[derive(Drop)]
+#[derive(Clone, Copy)]
 pub struct SppUncrewed {
     // 01's or 02's number of a refusal, or 0 where the call is accepted.
     pub refusal: u32,

@@ -1,4 +1,5 @@
 // Reducing a node: the step, and the loop that ends when no candidate is left.
+#![tactic(auto)]
 ghost use Rattle.std.specs.Prelude.{◌≡◌, [], replicate};
 ghost use Rattle.node.specs.View.{view};
 ghost use Rattle.node.specs.Stored.{matrix_in, Columns};
@@ -11,7 +12,7 @@ use candidates::best_candidate;
 use node::{Node, row_part};
 
 // A node reduced, with the rows used, numbered from 1, at the front of a list.
-#[derive(Drop)]
+#[derive(Clone, Copy)]
 pub struct Reduction {
     pub node: Node,
     pub used: [u8; 64],

@@ -1,12 +1,12 @@
 -- What is put into the list, one after another: what is left to put gives what all of it gives.
 use mathlib.Core.Path.{◌≡◌, refl, ap, sym, ◌∙◌}
-use mathlib.Core.List.{List, [], ◌∷◌, ◌++◌, map}
+use mathlib.Core.List.{List, [], ◌∷◌, map}
 use Prim.Native.Nat.{ℕ, suc, ◌+◌, ◌-◌, ◌≤◌, ◌<◌}
 use native.Mathlib.Nat.{add-zero, sub-zero}
 use native.Mathlib.Numerals.{add-one}
 use native.Mathlib.Omega.{arith}
-use lib.ListN.{length, get_or, set, take, drop, drop_of_length-le, length-append, length-take, length-drop}
-use lib.Seq.{sets, sets-eq, drop-cons, take_at, length-take-le}
+use lib.ListN.{length, get_or, set, take, drop, drop_of_length-le, length-take, length-drop}
+use lib.Seq.{sets, drop-cons}
 use Rattle.node.specs.Lists.{from}
 use Rattle.node.specs.Stored.{Body}
 use Rattle.node.proofs.Loops.{drop-step, from_next}
@@ -30,12 +30,6 @@ module _ (rs l₀ : List ℕ) (at : ℕ) (l : List ℕ) (k : ℕ) (w : Copying r
 
   pub copying_end : length rs ≤ k → l ≡ sets l₀ at rs
   copying_end h = sym (ap (sets l (at + k)) (drop_of_length-le rs h)) ∙ w.left
-
--- a list in which some places are set, up to the last of them
-pub take-sets : {A : Type 0} (l new : List A) (n : ℕ) → n + length new ≤ length l → (m : ℕ) → length new ≡ m → take (n + m) (sets l n new) ≡ take n l ++ new
-take-sets l new n h m q =
-    let e : length (take n l ++ new) ≡ n + length new = simp (length-append, length-take-le n l (omega (arith, h))) in
-    rw (← q, sets-eq new l n h) (take_at (take n l ++ new) (drop (n + length new) l) (n + length new) e)
 
 -- at column j
 pub record Putting (lengths numbers matrix₀ cover₀ matrix cover : List ℕ) (start j : ℕ) : Type 0 where

@@ -1,4 +1,5 @@
 // The node that the code passes by value, and the steps that decide a column. The definitions are in specs/.
+#![tactic(auto)]
 ghost use Rattle.std.specs.Prelude.{◌≡◌, ◌+◌, ◌≤◌, ◌<◌, length};
 ghost use Rattle.node.specs.Matrix.{width, body, span};
 ghost use Rattle.node.specs.Node.{take, leave};
@@ -6,7 +7,7 @@ ghost use Rattle.node.specs.Stored.{part_at, matrix_in, Part, Kept, HasRow, HasC
 ghost use Rattle.node.specs.Taking.{closed, all_dropped, rows_dropped};
 
 // A node of the tree (01: its open sailings, free duties and present prices, its taken duties and its floor).
-#[derive(Drop)]
+#[derive(Clone, Copy)]
 pub struct Node {
     // The present cost of each column, 0 from the matrix's width on.
     pub cost: [u32; 256],

@@ -20,7 +20,7 @@ use Rattle.rules.proofs.Plans.{Free}
 use Rattle.rules.proofs.Goals.{WorkableFor, goal_steps}
 use Rattle.rules.proofs.Pairs.{asked_why}
 use Rattle.rules.proofs.Numbers.{Numbers, drop-two, drop-few}
-use Rattle.rules.proofs.Sides.{PairsFit, WorkablePaired}
+use Rattle.rules.proofs.Sides.{SideFits, WorkableWith}
 use Rattle.goals.specs.Taking.{Takes}
 use Rattle.pairs.specs.Asks.{asks, some_asks, node_after}
 
@@ -83,7 +83,7 @@ pub record Passing (g : Goal) (l ns : List ℕ) (s₀ s : Node) (k : ℕ) : Type
   pub left : pass (search_for g (matrix_in l)).join (matrix_in l) (rest ns k) s changed
       ≡ pass (search_for g (matrix_in l)).join (matrix_in l) (pairs_of ns) s₀ false
 
-pub passing_start : (g : Goal) (l ns : List ℕ) (s : Node) → WorkablePaired g ns l s → Passing g l ns s s 0
+pub passing_start : (g : Goal) (l ns : List ℕ) (s : Node) → WorkableWith g ns l s → Passing g l ns s s 0
 passing_start g l ns s w = record { some = w.some; low = omega arith; changed = false; left = refl }
 
 module _ (g : Goal) (l ns : List ℕ) (s₀ s : Node) (k : ℕ) (w : Passing g l ns s₀ s k) where
@@ -116,7 +116,7 @@ module _ (g : Goal) (l ns : List ℕ) (s₀ s : Node) (k : ℕ) (w : Passing g l
     unfolding pass_on
     passing_nothing h = record { some = w.some; low = omega arith; changed = c; left = rw h at next }
 
-    module _ (f : PairsFit l ns) where
+    module _ (f : SideFits l ns) where
       -- the first is free and is left
       module _ (h : found ≡ LeaveFirst) where
         leaves : Free p s (get_or ns k 0 - 1)

@@ -16,7 +16,7 @@ use Rattle.rules.specs.declared.PairAsked.{PairAsked}
 use Rattle.rules.specs.declared.PairAsked.TheVariants.{TakeSecond, Dead, LeaveFirst, Nothing}
 use Rattle.rules.specs.declared.Forced.{Forced}
 use Rattle.rules.specs.Force.{asked, force_on}
-use Rattle.rules.specs.Goals.{search_for, search_paired}
+use Rattle.rules.specs.Goals.{search_for, search_with}
 use Rattle.rules.specs.Tree.{Variant, live, dead}
 use Rattle.rules.specs.Pairs.{Pair, pairs_of, pair_asked, Passed, if_alive, if_changed, pass_on, pass}
 use Rattle.rules.proofs.Plans.{Free}
@@ -26,7 +26,7 @@ use Rattle.rules.proofs.Forcing.{asked-free, force-step}
 use Rattle.rules.proofs.Variants.{Stepping}
 use Rattle.rules.proofs.Goals.{WorkableFor, goal_settle, goal_steps}
 use Rattle.rules.proofs.Pairs.{PairsInside, pass_good, pass_fewer, paired-step}
-use Rattle.rules.proofs.Sides.{WorkablePaired, pairs-inside}
+use Rattle.rules.proofs.Sides.{WorkableWith, side-pairs}
 use Rattle.goals.specs.Taking.{Takes}
 use Rattle.forcing.proofs.Marks.{asked-marks}
 use Rattle.pairs.specs.Asks.{asks, some_asks, node_after}
@@ -80,15 +80,15 @@ module _ (join : Node → ℕ → ℕ) (p : Matrix) where
       go Nothing f w l = w f l
 
 -- at node n
-pub record Settling (g : Goal) (pairs l : List ℕ) (s n : Node) : Type 0 where
-  pub some : WorkablePaired g pairs l n
-  pub left : (search_paired g pairs (matrix_in l)).settle n ≡ (search_paired g pairs (matrix_in l)).settle s
+pub record Settling (g : Goal) (side l : List ℕ) (s n : Node) : Type 0 where
+  pub some : WorkableWith g side l n
+  pub left : (search_with g side (matrix_in l)).settle n ≡ (search_with g side (matrix_in l)).settle s
 
-pub settling_start : (g : Goal) (pairs l : List ℕ) (s : Node) → WorkablePaired g pairs l s → Settling g pairs l s s
-settling_start g pairs l s w = record { some = w; left = refl }
+pub settling_start : (g : Goal) (side l : List ℕ) (s : Node) → WorkableWith g side l s → Settling g side l s s
+settling_start g side l s w = record { some = w; left = refl }
 
 -- what the open rows ask
-module _ (g : Goal) (pairs l : List ℕ) (s n : Node) (w : Settling g pairs l s n) (found : Asked)
+module _ (g : Goal) (side l : List ℕ) (s n : Node) (w : Settling g side l s n) (found : Asked)
     (told : found ≡ asked (matrix_in l) (view [] n.column n.row)) where
   abbrev p : Matrix
   p = matrix_in l
@@ -97,7 +97,7 @@ module _ (g : Goal) (pairs l : List ℕ) (s n : Node) (w : Settling g pairs l s 
   o = search_for g (matrix_in l)
 
   abbrev qs : List Pair
-  qs = pairs_of pairs
+  qs = pairs_of side
 
   F : FitsNode p
   F = w.some.some.kept.small.fits
@@ -106,11 +106,11 @@ module _ (g : Goal) (pairs l : List ℕ) (s n : Node) (w : Settling g pairs l s 
   S = goal_steps g l w.some.some.kept
 
   inside : PairsInside p qs
-  inside = pairs-inside l pairs w.some.fits
+  inside = side-pairs g side l w.some.some.kept w.some.fits
 
   -- a workable node is forced, and the pairs are gone through
-  round : (t : Node) → WorkableFor g l t → (search_paired g pairs p).settle t
-      ≡ if_alive (o.settle t) (λ u. if_changed (pass o.join p qs u false) (search_paired g pairs p).settle)
+  round : (t : Node) → WorkableFor g l t → (search_with g side p).settle t
+      ≡ if_alive (o.settle t) (λ u. if_changed (pass o.join p qs u false) (search_with g side p).settle)
   round t h = paired-step p F o (IsPlan p) (WorkableFor g l) S qs inside t h
 
   is : found ≡ asked p n
@@ -119,10 +119,10 @@ module _ (g : Goal) (pairs l : List ℕ) (s n : Node) (w : Settling g pairs l s 
   step : o.settle n ≡ force_on o.join found p n o.settle
   step = rw (is, goal_settle g p) (force-step p F o.join n)
 
-  whole : if_alive (o.settle n) (λ u. if_changed (pass o.join p qs u false) (search_paired g pairs p).settle) ≡ (search_paired g pairs p).settle s
+  whole : if_alive (o.settle n) (λ u. if_changed (pass o.join p qs u false) (search_with g side p).settle) ≡ (search_with g side p).settle s
   whole = sym (round n w.some.some) ∙ w.left
 
-  pub settling_dead : found ≡ rows.Dead → dead n ≡ (search_paired g pairs (matrix_in l)).settle s
+  pub settling_dead : found ≡ rows.Dead → dead n ≡ (search_with g side (matrix_in l)).settle s
   unfolding force_on
   settling_dead h = rw (step, h) at whole
 
@@ -141,7 +141,7 @@ module _ (g : Goal) (pairs l : List ℕ) (s n : Node) (w : Settling g pairs l s 
       pub settling_less : size (matrix_in l) m < size (matrix_in l) n
       settling_less = rw e (take_less p F n j free (o.join n j))
 
-      pub settling_taken : Settling g pairs l s m
+      pub settling_taken : Settling g side l s m
       unfolding force_on
       settling_taken = record {
         some = record { some = good; fits = w.some.fits };
@@ -152,31 +152,31 @@ module _ (g : Goal) (pairs l : List ℕ) (s n : Node) (w : Settling g pairs l s 
 
   -- nothing is forced
   module _ (h : found ≡ rows.Settled) where
-    goes : if_changed (pass o.join p qs n false) (search_paired g pairs p).settle ≡ (search_paired g pairs p).settle s
+    goes : if_changed (pass o.join p qs n false) (search_with g side p).settle ≡ (search_with g side p).settle s
     unfolding force_on
     goes = rw (step, h) at whole
 
-    pub settling_idle : some_asks n.column (pairs_of pairs) ≡ false → live n ≡ (search_paired g pairs (matrix_in l)).settle s
+    pub settling_idle : some_asks n.column (pairs_of side) ≡ false → live n ≡ (search_with g side (matrix_in l)).settle s
     settling_idle e = rw (idle o.join p qs n false e) at goes
 
     -- the pairs gone through
-    module _ (passed : Forced) (done : passed ≡ node_after (pass (search_for g (matrix_in l)).join (matrix_in l) (pairs_of pairs) n false)) where
+    module _ (passed : Forced) (done : passed ≡ node_after (pass (search_for g (matrix_in l)).join (matrix_in l) (pairs_of side) n false)) where
       abbrev r : Passed
-      r = pass (search_for g (matrix_in l)).join (matrix_in l) (pairs_of pairs) n false
+      r = pass (search_for g (matrix_in l)).join (matrix_in l) (pairs_of side) n false
 
-      pub settling_ends : passed.alive ≡ false → dead passed.node ≡ (search_paired g pairs (matrix_in l)).settle s
+      pub settling_ends : passed.alive ≡ false → dead passed.node ≡ (search_with g side (matrix_in l)).settle s
       settling_ends e =
           let ends : r.alive ≡ false = rw done at e in
           rw done (rw ends at goes)
 
-      module _ (asking : some_asks n.column (pairs_of pairs) ≡ true) (lives : passed.alive ≡ true) where
+      module _ (asking : some_asks n.column (pairs_of side) ≡ true) (lives : passed.alive ≡ true) where
         alive : r.alive ≡ true
         alive = rw done at lives
 
         changes : r.changed ≡ true
         changes = busy o.join p qs n asking alive
 
-        pub settling_next : Settling g pairs l s passed.node
+        pub settling_next : Settling g side l s passed.node
         settling_next = record {
           some = record {
             some = rw done (pass_good p F o (IsPlan p) (WorkableFor g l) S qs inside n w.some.some);

@@ -1,12 +1,13 @@
 // Pairs of columns (02, P8): what a pair asks, the pairs gone through in list sequence, and forcing and pairs done until nothing changes.
+#![tactic(auto)]
 ghost use Rattle.std.specs.Prelude.{◌≡◌, false, [], ◌<◌};
 ghost use Rattle.node.specs.Matrix.{Matrix};
 ghost use Rattle.node.specs.View.{view};
 ghost use Rattle.node.specs.Stored.{matrix_in};
-ghost use Rattle.rules.specs.Goals.{search_for, search_paired};
+ghost use Rattle.rules.specs.Goals.{search_for, search_with};
 ghost use Rattle.rules.specs.Pairs.{pair, pairs_of, pair_asked, pass};
 ghost use Rattle.rules.proofs.Numbers.{Numbers};
-ghost use Rattle.rules.proofs.Sides.{WorkablePaired};
+ghost use Rattle.rules.proofs.Sides.{WorkableWith};
 ghost use Rattle.pairs.specs.Asks.{asks, some_asks, node_after};
 
 use forcing::open_rows_ask;
@@ -68,7 +69,7 @@ fn some_asks(column: &[u8; 256], pairs: &[u16]) -> bool
 
 // The pairs in list sequence: the second is taken, by the step of forcing, the first is left, or the node is dead.
 fn pass_pairs(goal: Goal, mut s: Node, matrix: &[u16], pairs: &[u16]) -> Forced
-    requires { WorkablePaired goal pairs.now matrix.now s }
+    requires { WorkableWith goal pairs.now matrix.now s }
     ensures { (let p : Matrix = matrix_in matrix.now in result ≡ node_after (pass (search_for goal p).join p (pairs_of pairs.now) s false)) }
 {
     let mut k = 0;
@@ -100,10 +101,10 @@ fn pass_pairs(goal: Goal, mut s: Node, matrix: &[u16], pairs: &[u16]) -> Forced
     }
 }
 
-// Takes what is forced until nothing is, then goes through the pairs; and again until nothing changes.
-pub fn force_paired(goal: Goal, mut s: Node, matrix: &[u16], pairs: &[u16]) -> Forced
-    requires { WorkablePaired goal pairs.now matrix.now s }
-    ensures { result ≡ (search_paired goal pairs.now (matrix_in matrix.now)).settle s }
+// Takes what is forced until nothing is, then goes through the side constraints, which are pairs; and again until nothing changes.
+pub fn force_with(goal: Goal, mut s: Node, matrix: &[u16], side: &[u16]) -> Forced
+    requires { WorkableWith goal side.now matrix.now s }
+    ensures { result ≡ (search_with goal side.now (matrix_in matrix.now)).settle s }
 {
     loop {
         let found = open_rows_ask(&s.column, &s.row, matrix);
@@ -115,13 +116,13 @@ pub fn force_paired(goal: Goal, mut s: Node, matrix: &[u16], pairs: &[u16]) -> F
                 };
             }
             Asked::Settled => {
-                if !some_asks(&s.column, pairs) {
+                if !some_asks(&s.column, side) {
                     return Forced {
                         node: s,
                         alive: true,
                     };
                 }
-                let passed = pass_pairs(goal, s, matrix, pairs);
+                let passed = pass_pairs(goal, s, matrix, side);
                 s = passed.node;
                 if !passed.alive {
                     return Forced {

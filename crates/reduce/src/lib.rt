@@ -1,4 +1,5 @@
 // The reducing call on a file.
+#![tactic(auto)]
 ghost use Rattle.std.specs.Prelude.{◌≡◌, map, pos, length, take};
 ghost use Rattle.refusals.specs.Refusals.{fault_of, unless, filled, front};
 ghost use Rattle.reduce.specs.Room.{CostRoom, Room};
@@ -10,7 +11,7 @@ use lowering::{Reduction, reduce_node};
 use refusals::{Check, Refusal};
 
 // The lower bound and the number of rows used.
-#[derive(Drop)]
+#[derive(Clone, Copy)]
 pub struct Bound {
     // 01's floor.
     pub bound: i64,
@@ -19,7 +20,7 @@ pub struct Bound {
 }
 
 // What reducing a file comes to.
-#[derive(Drop)]
+#[derive(Clone, Copy)]
 pub enum ReduceAnswer {
     Reduced(Bound),
     Refused(Refusal),

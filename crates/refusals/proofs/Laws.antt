@@ -9,7 +9,7 @@ use lib.Seq.{sets, sets-eq, get_or-drop, get_or-append-add, take-append_seam}
 use native.Mathlib.Omega.{arith}
 use Rattle.refusals.specs.Refusals.{Fault, fine, fault, ask, ◌then◌, number_of, fault_of, Outcome, accepted, refused, unless, front, filled}
 use Rattle.refusals.specs.declared.Refusal.{Refusal}
-use Rattle.refusals.specs.declared.Refusal.TheVariants.{Magic, Counts, Contents, Cost, Length, Total, Start, End, Row, Room, NodeLimit, Offered, Lists, Agreed, Absent, TableSize, TableCost, TrialColumns, StepColumn, Pair, PairCount, Ports, Limits}
+use Rattle.refusals.specs.declared.Refusal.TheVariants.{Magic, Counts, Contents, Cost, Length, Total, Start, End, Row, Room, NodeLimit, Offered, Lists, Agreed, Absent, TableSize, TableCost, TrialColumns, StepColumn, Pair, PairCount}
 use Rattle.refusals.specs.declared.Check.{Check}
 use Rattle.refusals.specs.declared.Check.TheVariants.{Passed, Failed}
 
@@ -36,8 +36,6 @@ numbered TrialColumns = omega arith
 numbered StepColumn = omega arith
 numbered Pair = omega arith
 numbered PairCount = omega arith
-numbered Ports = omega arith
-numbered Limits = omega arith
 
 -- after a test that failed, and after one that passed
 pub stops_at : {a : Fault} (k : ℕ) (b : Fault) → a ≡ fault k → (a then b) ≡ fault k

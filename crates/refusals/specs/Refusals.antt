@@ -1,7 +1,7 @@
 -- Refusals: their numbers, sequences of tests, and what a call comes to (01, When a call declines).
 use Rattle.std.specs.Prelude.{Bool, true, false, List, ◌++◌, ℕ, length, drop}
 use Rattle.refusals.specs.declared.Refusal.{Refusal}
-use Rattle.refusals.specs.declared.Refusal.TheVariants.{Magic, Counts, Contents, Cost, Length, Total, Start, End, Row, Room, NodeLimit, Offered, Lists, Agreed, Absent, TableSize, TableCost, TrialColumns, StepColumn, Pair, PairCount, Ports, Limits}
+use Rattle.refusals.specs.declared.Refusal.TheVariants.{Magic, Counts, Contents, Cost, Length, Total, Start, End, Row, Room, NodeLimit, Offered, Lists, Agreed, Absent, TableSize, TableCost, TrialColumns, StepColumn, Pair, PairCount}
 use Rattle.refusals.specs.declared.Check.{Check}
 use Rattle.refusals.specs.declared.Check.TheVariants.{Passed, Failed}
 
@@ -28,8 +28,6 @@ number_of TrialColumns = 18
 number_of StepColumn = 19
 number_of Pair = 20
 number_of PairCount = 21
-number_of Ports = 22
-number_of Limits = 23
 
 -- what tests find: nothing, or a fault with 01's number
 pub data Fault : Type 0 where

@@ -1,9 +1,10 @@
 // Why a call declines, and what a test comes to.
+#![tactic(auto)]
 ghost use Rattle.std.specs.Prelude.{◌≡◌};
 ghost use Rattle.refusals.specs.Refusals.{number_of};
 
 // 01's table "When a call declines", with 02's numbers from 14 on: a case for each cause.
-#[derive(Drop)]
+#[derive(Clone, Copy)]
 pub enum Refusal {
     // Under 8 bytes, or neither SPP1 nor SPP2.
     Magic,
@@ -47,14 +48,10 @@ pub enum Refusal {
     Pair,
     // The list of pairs has an odd length, or more than 128 pairs.
     PairCount,
-    // A port is out of range, there is not one for each column, or there are not sixteen limits.
-    Ports,
-    // A port's least number is above its greatest.
-    Limits,
 }
 
 // What a test, or a sequence of tests, comes to.
-#[derive(Drop)]
+#[derive(Clone, Copy)]
 pub enum Check {
     Passed,
     Failed(Refusal),
@@ -86,7 +83,5 @@ pub fn number(why: Refusal) -> u32
         Refusal::StepColumn => 19,
         Refusal::Pair => 20,
         Refusal::PairCount => 21,
-        Refusal::Ports => 22,
-        Refusal::Limits => 23,
     }
 }

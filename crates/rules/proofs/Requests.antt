@@ -1,25 +1,24 @@
 -- With what a desk asks besides, for both goals: the start is a node that the code's steps can work with, and demand 3 holds of the
--- choices that count; and so for the sum of costs with home ports.
+-- choices that count.
 use mathlib.Core.Path.{◌≡◌, refl}
 use mathlib.Core.Bool.{Bool, true}
 use mathlib.Core.List.{List}
 use Prim.Native.Nat.{ℕ, ◌-◌, ◌≤◌, ◌<◌}
 use Rattle.node.specs.declared.Node.{Node}
 use Rattle.node.specs.Lists.{member}
-use Rattle.node.specs.Matrix.{Matrix, covers, IsPlan, price}
+use Rattle.node.specs.Matrix.{Matrix, covers, IsPlan}
 use Rattle.node.specs.Node.{root}
-use Rattle.node.specs.Stored.{matrix_in, FitsNode, Small}
+use Rattle.node.specs.Stored.{matrix_in, FitsNode}
 use Rattle.rules.specs.declared.Forced.{Forced}
 use Rattle.rules.specs.declared.Goal.{Goal}
 use Rattle.rules.specs.declared.Goal.TheVariants.{Sum, Longest}
 use Rattle.rules.specs.Reduce.{precedes}
 use Rattle.rules.specs.Search.{none}
-use Rattle.rules.specs.Tree.{Variant, sum, live, answer}
+use Rattle.rules.specs.Tree.{Variant, live, answer}
 use Rattle.rules.specs.Demand.{Demand3}
 use Rattle.rules.specs.Longest.{dearest, longest, by_floor}
 use Rattle.rules.specs.Goals.{search_for, value_for}
 use Rattle.rules.specs.Pairs.{Pair, pairs_of, Paired}
-use Rattle.rules.specs.Ports.{Ports, least_of_port, greatest_of_port, with_ports, Ported}
 use Rattle.rules.specs.Requests.{Requests, columns_of, to_hold, begun, unstruck_start, requested, Granted}
 use Rattle.rules.proofs.Plans.{root-free}
 use Rattle.rules.proofs.Variants.{Stepping, Laws}
@@ -27,7 +26,6 @@ use Rattle.rules.proofs.Demand.{demand_3}
 use Rattle.rules.proofs.Agreed.{Keeps, Inside, Distinct, start_keeps_good, both_none, shared-none, agreed_laws}
 use Rattle.rules.proofs.Struck.{struck-inside, struck_distinct, member-columns}
 use Rattle.rules.proofs.Pairs.{PairsInside, paired_steps, paired_laws}
-use Rattle.rules.proofs.Ports.{ported_laws, ported-answer}
 use Rattle.rules.proofs.Costs.{Good}
 use Rattle.rules.proofs.Sum.{sum_laws}
 use Rattle.rules.proofs.Longest.{High, longest_laws, floor-answer}
@@ -89,30 +87,6 @@ begun-workable g l cs q a w =
     let p : Matrix = matrix_in l in
     start_keeps_good p w.kept.small.fits (search_for g p) (IsPlan p) (WorkableFor g l) (goal_steps g l w.kept) (to_hold q)
     (columns_of q.absent) (hold_inside p q a) a.absent (hold_distinct p q a) (root p cs) w (root-free p w.kept.small.fits cs)
-
--- for the sum of costs, with home ports besides (02, P11)
-module _ (p : Matrix) (small : Small p) (cs : List ℕ) (q : Requests) (a : Askable p q) (ports : Ports) (limit : ℕ) where
-  abbrev s : Variant
-  s = requested p q (sum p)
-
-  abbrev start : Forced
-  start = begun (sum p) p q (root p cs)
-
-  sum-requested : Laws p s start (Granted p q) (price p cs) (Keeps (Good p cs) (to_hold q) (columns_of q.absent))
-  sum-requested = requested_laws p small.fits cs q a (sum p) (price p cs) (Good p cs) (sum_laws precedes p small.fits cs)
-
-  pub ported_demand_3 :
-      Demand3 p (with_ports p ports (requested p q (sum p))) (begun (sum p) p q (root p cs)) (Ported p (Granted p q) ports) (price p cs) limit
-      (answer (with_ports p ports (requested p q (sum p))) p (begun (sum p) p q (root p cs)) limit)
-  ported_demand_3 =
-      demand_3 p small.fits (with_ports p ports s) (Ported p (Granted p q) ports) (price p cs) _ start
-      (ported_laws p small s start (Granted p q) (price p cs) _ sum-requested ports) limit
-
-  -- limits that cannot bind give the former answer
-  pub ported_former : ((k : ℕ) → k < 8 → least_of_port ports k ≡ 0) → ((k : ℕ) → k < 8 → 64 ≤ greatest_of_port ports k)
-      → answer (with_ports p ports (requested p q (sum p))) p (begun (sum p) p q (root p cs)) limit
-      ≡ answer (requested p q (sum p)) p (begun (sum p) p q (root p cs)) limit
-  ported_former lows highs = ported-answer p small s start (Granted p q) (price p cs) _ sum-requested ports lows highs limit
 
 module _ (p : Matrix) (F : FitsNode p) (cs : List ℕ) (q : Requests) (a : Askable p q) (limit : ℕ) (one : 1 ≤ limit) where
   -- the search for a goal, and the steps that it makes from the root

@@ -17,7 +17,7 @@ abbrev found_paired : Instance → ℕ → List ℕ → List ℕ → List ℕ �
 found_paired p limit agreed absent pairs = with longest p limit (asking agreed absent pairs)
 
 -- m 2, {1} at 1, {1} at 2, {2} at 1, {2} at 3: the plans are 1 3 at 2, 2 3 at 3, 1 4 at 4 and 2 4 at 5
-abbrev pub four_duties : Instance
+abbrev four_duties : Instance
 four_duties = file 2 (1 ∷ 2 ∷ 1 ∷ 3 ∷ []) ((1 ∷ []) ∷ (1 ∷ []) ∷ (2 ∷ []) ∷ (2 ∷ []) ∷ [])
 
 -- the same, and {2} at 5

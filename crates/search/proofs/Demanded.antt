@@ -35,7 +35,7 @@ demanded g s limit q places h =
     goal_demand_3 g p (file-small s a).fits (instance (parse s)).costs q (listed p (shape s) q (file-wide s a) (both _ _ b.1).1) limit
 
 -- a plan's price is its cost in the search less what was added
-pub priced-same : (g : Goal) (s : List ℕ) → Accepted s → first_fault g s ≡ fine → (X : ℕ → Bool) → IsPlan (instance (parse s)).matrix X
+priced-same : (g : Goal) (s : List ℕ) → Accepted s → first_fault g s ≡ fine → (X : ℕ → Bool) → IsPlan (instance (parse s)).matrix X
     → lowered (added s) (value_for g (instance (parse s)).matrix (instance (parse s)).costs X) ≡ priced_for g s X
 unfolding value_for priced_for first_fault instance parse
 priced-same Sum s a e X plan = price-lowered s a X plan

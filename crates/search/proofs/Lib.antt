@@ -2,9 +2,7 @@ mod Paired
 mod Listed
 -- Demand 3, of what passes its tests.
 pub mod Demanded
-mod Opened
 mod Called
-pub mod Ported
 -- Lists with nothing in common give the answers of before, and so do empty ones.
 pub mod Struck
 pub mod Unasked

@@ -1,26 +1,20 @@
 // The public search calls on a file: the file is read as a matrix and costs, searched from its root with what a desk asks of a plan, and
 // the plan shown is written.
-ghost use Rattle.std.specs.Prelude.{◌≡◌, List, ℕ, pos, length, replicate};
-ghost use Rattle.refusals.specs.Refusals.{fine, fault_of, accepted, unless, front, filled};
+#![tactic(auto)]
+ghost use Rattle.std.specs.Prelude.{◌≡◌, List, ℕ, pos, length};
+ghost use Rattle.refusals.specs.Refusals.{fine, fault_of, accepted, filled};
 ghost use Rattle.node.specs.Matrix.{Matrix, signed_price};
 ghost use Rattle.node.specs.Node.{root};
-ghost use Rattle.rules.specs.Search.{shown_by};
 ghost use Rattle.rules.specs.Tree.{sum};
 ghost use Rattle.rules.specs.Longest.{dearest, longest};
-ghost use Rattle.rules.specs.Ports.{Ports, port_lists, with_ports, Ported};
 ghost use Rattle.rules.specs.Requests.{Requests, asking, begun, requested, Granted};
-ghost use Rattle.dutyfile.specs.File.{Lists, parse, shift, added, instance, shape};
-ghost use Rattle.examine.specs.declared.ReadAnswer.TheVariants.{Accepted};
-ghost use Rattle.examine.specs.Answer.{read_outcome};
-ghost use Rattle.lists.specs.Loaded.{Loaded};
-ghost use Rattle.answer.specs.Answer.{Values, search_outcome, values_of, plan_numbers};
+ghost use Rattle.dutyfile.specs.File.{Lists, parse, added, instance};
+ghost use Rattle.answer.specs.Answer.{Values, search_outcome};
 ghost use Rattle.answer.specs.Demand.{SignedDemand3};
 ghost use Rattle.search.specs.Searching.{call_fault};
-ghost use Rattle.search.specs.Requests.{is_pair, are_pairs, pair_fault, request_fault, call_fault_with, fault_with};
+ghost use Rattle.search.specs.Requests.{is_pair, are_pairs, pair_fault, request_fault, call_fault_with, searching_with, plan_list_with};
 ghost use Rattle.search.specs.Requests.{longest_searching_with, longest_list_with};
-ghost use Rattle.search.specs.Ports.{searching_with_ports, plan_list_with_ports};
 ghost use Rattle.search.specs.Goals.{first_fault, searching_for, list_for, DemandFor};
-ghost use Rattle.search.specs.Opened.{answer_opened, Opened};
 
 use answer::SearchAnswer;
 use dutyfile::{Edition, Shape, columns_rise};
@@ -126,61 +120,8 @@ fn check_call_with(
     }
 }
 
-// A file read as a matrix and costs, for a call with lists of columns that passes its tests.
-fn open_call(
-    file: &[u8],
-    limit: u32,
-    agreed: &[u16],
-    absent: &[u16],
-    pairs: &[u16],
-    places: usize,
-    matrix: &mut [u16; 8516],
-    costs: &mut [u32; 256],
-) -> ReadAnswer
-    requires { costs.old ≡ replicate 256 0 }
-    ensures result_value { read_outcome result ≡ unless (fault_with file.now limit (asking agreed.now absent.now pairs.now) places) (shape file.now) }
-    ensures loaded { (found : Shape) → result ≡ Accepted found → Loaded file.now found matrix.new costs.new }
-{
-    let found = lists::read_matrix(file, matrix, costs);
-    match found {
-        ReadAnswer::Refused(why) => ReadAnswer::Refused(why),
-        ReadAnswer::Accepted(shape) => {
-            let test = check_call_with(shape, places, limit, agreed, absent, pairs);
-            match test {
-                Check::Failed(why) => ReadAnswer::Refused(why),
-                Check::Passed => ReadAnswer::Accepted(shape),
-            }
-        }
-    }
-}
-
-// Searches a matrix with its costs for a goal, from the root, with agreed and absent columns and side constraints: the answer, with the plan
-// that it shows at the front of the list.
-fn search_opened(
-    goal: Goal,
-    found: Shape,
-    matrix: &[u16],
-    costs: [u32; 256],
-    limit: u32,
-    agreed: &[u16],
-    absent: &[u16],
-    side: &[u16],
-    plan: &mut [u16],
-) -> SearchAnswer
-    requires { Opened goal matrix.now costs limit agreed.now absent.now side.now found (length plan.old) }
-    ensures result_value { search_outcome result ≡ accepted (values_of (shift found.edition found.rows) (answer_opened goal matrix.now costs limit agreed.now absent.now side.now)) }
-    ensures plan_after { plan.new ≡ front (plan_numbers (shown_by (answer_opened goal matrix.now costs limit agreed.now absent.now side.now))) plan.old }
-{
-    let root = root::root_node(matrix, costs);
-    let start = requests::begin(goal, root, agreed, absent, matrix);
-    let done = solver::search_from(goal, start, matrix, side, limit);
-    let edition = found.edition;
-    let added = raising::shift(edition, found.rows);
-    answer::give(done, found.columns, added, plan)
-}
-
-// Searches a duty file for a goal, with no ports.
-pub fn search_for(
+// Searches a duty file for a goal, as both calls do.
+fn search_for(
     goal: Goal,
     file: &[u8],
     limit: u32,
@@ -196,77 +137,42 @@ pub fn search_for(
 {
     let mut matrix = matrix::no_cells();
     let mut costs = raising::no_costs();
-    let found = open_call(
-        file,
-        limit,
-        agreed,
-        absent,
-        pairs,
-        plan.len(),
-        &mut matrix,
-        &mut costs,
-    );
+    let found = lists::read_matrix(file, &mut matrix, &mut costs);
     match found {
         ReadAnswer::Refused(why) => SearchAnswer::Refused(why),
-        ReadAnswer::Accepted(shape) => search_opened(
-            goal, shape, &matrix, costs, limit, agreed, absent, pairs, plan,
-        ),
+        ReadAnswer::Accepted(shape) => {
+            let test = check_call_with(shape, plan.len(), limit, agreed, absent, pairs);
+            match test {
+                Check::Failed(why) => SearchAnswer::Refused(why),
+                Check::Passed => {
+                    let root = root::root_node(&matrix, costs);
+                    let start = requests::begin(goal, root, agreed, absent, &matrix);
+                    let done = solver::search_from(goal, start, &matrix, pairs, limit);
+                    let edition = shape.edition;
+                    let added = raising::shift(edition, shape.rows);
+                    answer::give(done, shape.columns, added, plan)
+                }
+            }
+        }
     }
 }
 
 // Searches a duty file within a node limit (01: allowance) for the cheapest plan that holds every agreed column that is not absent, no absent
-// one, and the first column of a pair only with the second, and gives each port a number of columns within its limits: the answer, with the
-// plan that it shows at the front of the list; with no plan, or refused, the list is as it was.
+// one, and the first column of a pair only with the second: the answer, with the plan that it shows at the front of the list; with no plan,
+// or refused, the list is as it was.
 pub fn search(
     file: &[u8],
     limit: u32,
     agreed: &[u16],
     absent: &[u16],
     pairs: &[u16],
-    ports: &[u8],
-    limits: &[u16],
     plan: &mut [u16],
 ) -> SearchAnswer
-    ensures result_value { search_outcome result ≡ searching_with_ports file.now limit (asking agreed.now absent.now pairs.now) (port_lists ports.now limits.now) (length plan.old) }
-    ensures plan_after { plan.new ≡ filled (search_outcome result) (plan_list_with_ports file.now limit (asking agreed.now absent.now pairs.now) (port_lists ports.now limits.now)) plan.old }
-    ensures signed_demand3 { (let d : Lists = parse file.now in let m : Matrix = (instance d).matrix in let cs : List ℕ = (instance d).costs in let q : Requests = asking agreed.now absent.now pairs.now in let s : Ports = port_lists ports.now limits.now in (v : Values) → search_outcome result ≡ accepted v → SignedDemand3 m (with_ports m s (requested m q (sum m))) (begun (sum m) m q (root m cs)) (Ported m (Granted m q) s) (signed_price m d.costs) (added file.now) limit v plan.new) }
+    ensures result_value { search_outcome result ≡ searching_with file.now limit (asking agreed.now absent.now pairs.now) (length plan.old) }
+    ensures plan_after { plan.new ≡ filled (search_outcome result) (plan_list_with file.now limit (asking agreed.now absent.now pairs.now)) plan.old }
+    ensures signed_demand3 { (let d : Lists = parse file.now in let m : Matrix = (instance d).matrix in let cs : List ℕ = (instance d).costs in let q : Requests = asking agreed.now absent.now pairs.now in (v : Values) → search_outcome result ≡ accepted v → SignedDemand3 m (requested m q (sum m)) (begun (sum m) m q (root m cs)) (Granted m q) (signed_price m d.costs) (added file.now) limit v plan.new) }
 {
-    let mut matrix = matrix::no_cells();
-    let mut costs = raising::no_costs();
-    let found = open_call(
-        file,
-        limit,
-        agreed,
-        absent,
-        pairs,
-        plan.len(),
-        &mut matrix,
-        &mut costs,
-    );
-    match found {
-        ReadAnswer::Refused(why) => SearchAnswer::Refused(why),
-        ReadAnswer::Accepted(shape) => {
-            let test = shares::check_ports(shape.columns, ports, limits);
-            match test {
-                Check::Failed(why) => SearchAnswer::Refused(why),
-                Check::Passed => {
-                    let mut side = [0u16; 529];
-                    let end = shares::put_side(pairs, ports, limits, &mut side);
-                    search_opened(
-                        Goal::Sum,
-                        shape,
-                        &matrix,
-                        costs,
-                        limit,
-                        agreed,
-                        absent,
-                        &side[0..end],
-                        plan,
-                    )
-                }
-            }
-        }
-    }
+    search_for(Goal::Sum, file, limit, agreed, absent, pairs, plan)
 }
 
 // Searches a duty file of SPP1 within a node limit for a plan whose dearest duty costs least (02, P1), with lists as for `search`: the answer, whose

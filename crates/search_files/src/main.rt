@@ -1,5 +1,6 @@
 // Reads duty files from standard input, each on a line as a name, a node limit and its bytes in hexadecimal, and prints the line of its
 // search as the program does, and the columns of the plan that is shown.
+#![tactic(auto)]
 
 fn say(text: &[u8]) {
     io::write_all(1, text);

@@ -1,4 +1,5 @@
 // Reads a duty file from standard input and prints what its search comes to, on one line.
+#![tactic(auto)]
 ghost use Rattle.std.specs.Prelude.{◌≤◌};
 
 // Whether the input has ended.

@@ -1,5 +1,6 @@
 // The search of a matrix from a start, a first node that is alive or dead: the tally of the walk within a node limit, and the first node's
 // lower bound.
+#![tactic(auto)]
 ghost use Rattle.std.specs.Prelude.{◌≡◌};
 ghost use Rattle.node.specs.Matrix.{Matrix, width};
 ghost use Rattle.node.specs.Stored.{matrix_in};
@@ -13,7 +14,7 @@ use tally::{Tally, enter, fresh_tally};
 use visit::settle;
 
 // A walk's tally at its end, and the first node's lower bound.
-#[derive(Drop)]
+#[derive(Clone, Copy)]
 pub struct Solved {
     pub tally: Tally,
     // 01's root floor.

@@ -1,4 +1,5 @@
 // The tally of a walk.
+#![tactic(auto)]
 ghost use Rattle.std.specs.Prelude.{◌≡◌, true, ◌&&◌, ℕ, ◌+◌, ◌<◌, leb};
 ghost use Rattle.rules.specs.Limited.{fresh, entered, halted, offered};
 ghost use Rattle.tally.specs.Tally.{taken_in, shown};
@@ -6,7 +7,7 @@ ghost use Rattle.tally.specs.Tally.{taken_in, shown};
 use node::Node;
 
 // What a walk has come to so far.
-#[derive(Drop)]
+#[derive(Clone, Copy)]
 pub struct Tally {
     // Nodes entered.
     pub nodes: u32,

@@ -1,4 +1,5 @@
 // The tree (01, The tree): a node opens branches and a branch enters a node; the number of free columns falls.
+#![tactic(auto)]
 ghost use Rattle.std.specs.Prelude.{◌≡◌, ℕ, ◌+◌, ◌≤◌, ◌<◌};
 ghost use Rattle.node.specs.Matrix.{Matrix, width};
 ghost use Rattle.node.specs.View.{node_of};
@@ -54,7 +55,7 @@ pub fn node(goal: Goal, s: Node, t: Tally, matrix: &[u16], side: &[u16]) -> Tall
 }
 
 // What a node branches on.
-#[derive(Drop)]
+#[derive(Clone, Copy)]
 struct Choice {
     // The column to take or leave.
     column: u32,

@@ -4,8 +4,8 @@ use mathlib.Core.List.{List, [], ◌++◌}
 use Prim.Native.Nat.{ℕ, suc, ◌+◌, ◌-◌, ◌≤◌}
 use native.Mathlib.Omega.{arith}
 use lib.IntN.{ℤ, pos}
-use lib.ListN.{length, take, replicate, length-replicate}
-use lib.Seq.{sets, length-sets}
+use lib.ListN.{length, take, drop, replicate, length-append, length-replicate}
+use lib.Seq.{sets, sets-eq, length-sets, take_at, length-take-le}
 use Rattle.node.specs.Lists.{from}
 use Rattle.node.specs.declared.Node.{Node}
 use Rattle.node.specs.Matrix.{width}
@@ -23,7 +23,6 @@ use Rattle.dutyfile.specs.File.{Lists, columns_in, parse, render, instance, shap
 use Rattle.dutyfile.proofs.Entries.{length-costs}
 use Rattle.dutyfile.proofs.Facts.{file-fine}
 use Rattle.dutyfile.proofs.Round.{Passing, ReadsBack, reads_back}
-use Rattle.matrix.proofs.Putting.{take-sets}
 use Rattle.lists.specs.Loaded.{Loaded}
 use Rattle.lists.proofs.Read.{Listed, accepted-listed}
 use Rattle.solver.specs.declared.Solved.{Solved}
@@ -32,6 +31,14 @@ use Rattle.search.specs.Searching.{file_answer}
 use Rattle.trials.specs.Trials.{extended, trial}
 use Rattle.trials.proofs.Extended.{extended_passing, sum-extended, length-extended}
 use Rattle.trial.specs.Ready.{held, Places, Ready}
+
+-- a list in which some places are set, n places before them
+module _ {A : Type 0} (l new : List A) (n : ℕ) (h : n + length new ≤ length l) where
+  front_long : length (take n l ++ new) ≡ n + length new
+  front_long = simp (length-append, length-take-le n l (omega (arith, h)))
+
+  take-sets : (m : ℕ) → length new ≡ m → take (n + m) (sets l n new) ≡ take n l ++ new
+  take-sets m q = rw (← q, sets-eq new l n h) (take_at (take n l ++ new) (drop (n + length new) l) (n + length new) front_long)
 
 -- a file that is read, searched from its root
 loaded_answer : (s : List ℕ) (found : Shape) (l costs : List ℕ) → Loaded s found l costs → (limit : ℕ)

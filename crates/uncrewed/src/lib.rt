@@ -1,4 +1,5 @@
 // The public call that finds which sailings can't be crewed (02, P6): the file is read, and its trials are searched one after another.
+#![tactic(auto)]
 ghost use Rattle.std.specs.Prelude.{◌≡◌, ◌≤◌, length, replicate};
 ghost use Rattle.refusals.specs.Refusals.{fault_of, accepted, unless, front, filled};
 ghost use Rattle.dutyfile.specs.File.{parse};
@@ -13,7 +14,7 @@ use examine::ReadAnswer;
 use refusals::{Check, Refusal};
 
 // The smallest row that can't be crewed together with those before it.
-#[derive(Drop)]
+#[derive(Clone, Copy)]
 pub struct Reached {
     // 02's k: the row, numbered from 1.
     pub row: u32,
@@ -22,7 +23,7 @@ pub struct Reached {
 }
 
 // Which sailings of a file can't be crewed.
-#[derive(Drop)]
+#[derive(Clone, Copy)]
 pub enum UncrewedAnswer {
     // No columns that share no row cover the rows up to this one.
     NoCrew(Reached),

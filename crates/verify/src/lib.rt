@@ -1,4 +1,5 @@
 // The plan check: how often each row is covered is counted column by column, and the lowest row that is off is told.
+#![tactic(auto)]
 ghost use Rattle.std.specs.Prelude.{◌≡◌, ℕ, ◌+◌, ◌<◌, ◌≤◌, true, length, slice_index};
 ghost use Rattle.refusals.specs.Refusals.{fine, accepted};
 ghost use Rattle.node.specs.Matrix.{signed_price, named};
@@ -11,7 +12,7 @@ use examine::ReadAnswer;
 use refusals::Refusal;
 
 // What checking an offered plan comes to.
-#[derive(Drop)]
+#[derive(Clone, Copy)]
 pub enum CheckAnswer {
     // The plan's cost, 01's price.
     Plan(i32),

@@ -1,4 +1,5 @@
 // What a node comes to when it is forced and reduced.
+#![tactic(auto)]
 ghost use Rattle.std.specs.Prelude.{◌≡◌, []};
 ghost use Rattle.node.specs.Lists.{is_empty};
 ghost use Rattle.node.specs.Node.{open_rows};
@@ -11,7 +12,7 @@ ghost use Rattle.visit.specs.Settled.{settled};
 use goals::raise;
 use lowering::reduce_node;
 use node::{Node, row_count};
-use ports::force_with;
+use pairs::force_with;
 use rules::Goal;
 
 // Whether no row is open.
@@ -31,7 +32,7 @@ fn is_full(row: &[u8; 64], matrix: &[u16]) -> bool
 }
 
 // A node forced, and reduced where it is alive and has open rows.
-#[derive(Drop)]
+#[derive(Clone, Copy)]
 pub struct Settled {
     pub node: Node,
     // Each open row has a free column.

@@ -1,4 +1,5 @@
 // The writer: the lists are tested whole, and only then is the lent buffer written.
+#![tactic(auto)]
 ghost use Rattle.std.specs.Prelude.{◌≡◌, ◌+◌, ◌≤◌, length};
 ghost use Rattle.refusals.specs.Refusals.{fault_of, unless, filled};
 ghost use Rattle.dutyfile.specs.declared.Edition.TheVariants.{Spp1, Spp2};
@@ -11,7 +12,7 @@ use dutyfile::{Contents, Edition};
 use refusals::{Check, Refusal};
 
 // What writing a file comes to.
-#[derive(Drop)]
+#[derive(Clone, Copy)]
 pub enum WriteAnswer {
     // The file's length.
     Written(usize),

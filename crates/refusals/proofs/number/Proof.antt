@@ -68,12 +68,6 @@ enum-told-20 c = search rules
 enum-told-21 : tie.Need-enum-told-21
 enum-told-21 c = search rules
 
-enum-told-22 : tie.Need-enum-told-22
-enum-told-22 c = search rules
-
-enum-told-23 : tie.Need-enum-told-23
-enum-told-23 c = search rules
-
 returns : tie.Need-returns
 returns c = ap number_of (sym c.enum_told.given.1)
 
@@ -137,12 +131,6 @@ returns-20 c = ap number_of (sym c.enum-told20.given.1)
 returns-21 : tie.Need-returns-21
 returns-21 c = ap number_of (sym c.enum-told21.given.1)
 
-returns-22 : tie.Need-returns-22
-returns-22 c = ap number_of (sym c.enum-told22.given.1)
-
-returns-23 : tie.Need-returns-23
-returns-23 c = ap number_of (sym c.enum-told23.given.1)
-
 pub number_spec : {M : Type 1} → statement M
 number_spec =
     tie.close
@@ -168,8 +156,6 @@ number_spec =
     enum-told-19
     enum-told-20
     enum-told-21
-    enum-told-22
-    enum-told-23
     returns
     returns-2
     returns-3
@@ -190,6 +176,4 @@ number_spec =
     returns-18
     returns-19
     returns-20
-    returns-21
-    returns-22
-    returns-23)
+    returns-21)

@@ -10,14 +10,14 @@ use Rattle.goals.specs.Taking.{Takes}
 use Rattle.goals.proofs.Taking.{takes-room, takes-column, takes_low, takes-is}
 use Rattle.pairs.proofs.Settling.{Settling, settling_start, settling_dead, settling_takes, settling_less, settling_taken}
 use Rattle.pairs.proofs.Settling.{settling_idle, settling_ends, settling_next, settling_fewer}
-use Rattle.pairs.proofs.force_paired.Statement.{statement}
-use Rattle.pairs.proofs.force_paired.Tie as tie
+use Rattle.pairs.proofs.force_with.Statement.{statement}
+use Rattle.pairs.proofs.force_with.Tie as tie
 
 abbrev invariant-loop : tie.invariant-loop
-invariant-loop goal matrix pairs s₀ s = Settling goal pairs matrix s₀ s
+invariant-loop goal matrix side s₀ s = Settling goal side matrix s₀ s
 
 abbrev decreases-loop : tie.decreases-loop
-decreases-loop goal matrix pairs s₀ s = size (matrix_in matrix) s
+decreases-loop goal matrix side s₀ s = size (matrix_in matrix) s
 
 loop-holds : tie.Need-loop-init invariant-loop decreases-loop
 loop-holds c = settling_start _ _ _ _ c.before.before.requires
@@ -41,7 +41,7 @@ some-asks-requires c κs =
     let a = c.before.before.before.before in
     let n = a.before.before.before.before in
     let w = n.loop.invariant.some in
-    numbers-low _ n.before.before.before.args.pairs.now w.fits w.some.kept.small.fits.wide
+    numbers-low _ n.before.before.before.args.side.now w.fits w.some.kept.small.fits.wide
 
 returns-2 : tie.Need-returns-2 invariant-loop decreases-loop
 returns-2 c =
@@ -120,8 +120,8 @@ loop-again-2 c =
     settling_taken _ _ _ _ _ a.before.before.before.before.loop.invariant _ a.open-rows-ask.ensures _ k.before.found.given.1 _
     (takes-is _ _ _ _ (takes k) _ c.before.join.ensures _ c.take.ensures)
 
-pub force_paired_spec : {M : Type 1} → statement M
-force_paired_spec =
+pub force_with_spec : {M : Type 1} → statement M
+force_with_spec =
     tie.close
     (tie.spec
     invariant-loop
