@@ -7,7 +7,7 @@ use native.Mathlib.Omega.{arith}
 use lib.Dec.{eqb, ltb}
 use lib.ListN.{length, get_or, drop}
 use borrow.Author.Tests.{eqb-true, eqb-false, ltb-true, ltb-false}
-use Rattle.assignments.specs.Assignment.{cost, Assignment, total_from, total, shown, Best}
+use Rattle.assignments.specs.Assignment.{cost, Assignment, total_from, shown, Best}
 use Rattle.assignments.specs.Sets.{no_total, has, offers, unpicked, pick, least_from, vessel, vessels_from, least_total, vessels, Priced}
 use Rattle.assignments.proofs.Sets.{has_empty, has-added, has_other}
 use Rattle.assignments.proofs.Picks.{pick_cap, pick_le, Picked, picked, Free, offers-free, free-offers}

@@ -8,8 +8,8 @@ use lib.Dec.{eqb, ltb}
 use borrow.Author.Tests.{eqb-true, eqb-false, ltb-true, ltb-false}
 use Rattle.assignments.specs.declared.Pick.{Pick}
 use Rattle.assignments.specs.Assignment.{cost}
-use Rattle.assignments.specs.Cheapest.{joined, with_one, assignments, total_of, Found, found, cheaper, cheapest, best}
-use Rattle.assignments.specs.Sets.{no_total, has, offer, offers, lower, pick_from, unpicked, pick, least_from, vessel, vessels_from, least_total, vessels, found_at, Priced}
+use Rattle.assignments.specs.Cheapest.{joined, with_one, assignments, total_of, Found, cheaper, cheapest, best}
+use Rattle.assignments.specs.Sets.{no_total, has, offer, offers, lower, pick_from, unpicked, least_from, vessel, vessels_from, least_total, vessels, found_at, Priced}
 use Rattle.assignments.proofs.Sets.{has_empty, has-added, has_other}
 use Rattle.assignments.proofs.Picks.{lower-less, lower-kept}
 use Rattle.assignments.proofs.Best.{taken}

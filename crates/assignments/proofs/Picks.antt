@@ -6,7 +6,7 @@ use native.Mathlib.Omega.{arith}
 use lib.Dec.{eqb, ltb}
 use borrow.Author.Tests.{eqb-true, eqb-false, eq-eqb, ne_eqb, ltb-true, ltb-false, lt-ltb, le-ltb}
 use Rattle.assignments.specs.declared.Pick.{Pick}
-use Rattle.assignments.specs.Sets.{no_total, has, offer, offers, lower, pick_from, pick}
+use Rattle.assignments.specs.Sets.{no_total, has, offer, offers, lower, pick_from}
 
 -- one vessel more
 pub lower-less : (b : Pick) (x j : ℕ) → x < b.cost → lower b x j ≡ record { cost = x; vessel = j }
