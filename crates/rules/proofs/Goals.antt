@@ -4,7 +4,7 @@ use mathlib.Core.List.{List, [], ◌∷◌}
 use Prim.Native.Nat.{ℕ, ◌≤◌, ◌<◌}
 use native.Mathlib.Omega.{arith}
 use Rattle.node.specs.declared.Node.{Node}
-use Rattle.node.specs.Lists.{keep, least}
+use Rattle.node.specs.Lists.{least}
 use Rattle.node.specs.Matrix.{Matrix, width, IsPlan}
 use Rattle.node.specs.Node.{cost_at, free_of, open_rows, root, take, leave}
 use Rattle.node.specs.Stored.{matrix_in, Kept, FitsNode}
@@ -12,7 +12,7 @@ use Rattle.rules.specs.declared.Goal.{Goal}
 use Rattle.rules.specs.declared.Goal.TheVariants.{Sum, Longest}
 use Rattle.rules.specs.Force.{force}
 use Rattle.rules.specs.Reduce.{least_of, precedes}
-use Rattle.rules.specs.Longest.{topped, raised, longest}
+use Rattle.rules.specs.Longest.{topped, raised}
 use Rattle.rules.specs.Goals.{search_for}
 use Rattle.node.proofs.Members.{least_at}
 use Rattle.rules.proofs.Plans.{Free, Sound, root-free, sound_same}

@@ -1,6 +1,6 @@
 -- An agreed list without what is absent (02, P9): with nothing in both lists it is the agreed list, and what is asked of the agreed columns
 -- holds of those that are left.
-use mathlib.Core.Path.{◌≡◌, sym, ◌∙◌}
+use mathlib.Core.Path.{◌≡◌, sym, ◌∙◌, subst}
 use mathlib.Core.Bool.{Bool, true, false, not, cond, false≢true}
 use mathlib.Core.List.{List, [], ◌∷◌}
 use mathlib.Core.Logic.{⊎_elim}
@@ -21,7 +21,7 @@ pub member-columns : (j : ℕ) (js : List ℕ) → member j js ≡ true → memb
 unfolding member
 member-columns j [] m = absurd (false≢true m)
 member-columns j (x ∷ xs) m =
-    ⊎_elim (λ e. rw e (here (x - 1) (columns_of xs))) (λ h. there (j - 1) (x - 1) (columns_of xs) (member-columns j xs h)) (member-cases j x xs m)
+    ⊎_elim (λ e. subst (λ y. member (y - 1) (columns_of (x ∷ xs)) ≡ true) (sym e) (here (x - 1) (columns_of xs))) (λ h. there (j - 1) (x - 1) (columns_of xs) (member-columns j xs h)) (member-cases j x xs m)
 
 -- the columns of the numbers that pass a test
 kept-column : (t : ℕ → Bool) (j : ℕ) (js : List ℕ) → member j (columns_of (keep t js)) ≡ true → member j (columns_of js) ≡ true
