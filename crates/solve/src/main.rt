@@ -2,10 +2,15 @@
 #![tactic(auto)]
 ghost use Rattle.std.specs.Prelude.{◌≤◌};
 
+use std::io::Read;
+
 // Whether the input has ended.
-fn is_at_end() -> bool {
+fn is_at_end(rt: &HostRuntime) -> bool {
     let mut next = [0u8; 1];
-    libc::read(0, &mut next) == 0
+    match rt.stdin().read(&mut next) {
+        Ok(n) => n == 0,
+        Err(_) => false,
+    }
 }
 
 // Prints a text's first bytes.
@@ -22,11 +27,11 @@ fn show(file: &[u8]) {
     print(text, size);
 }
 
-fn main() {
+fn main(rt: HostRuntime) {
     let mut file = dutyfile::file_space();
     let got = io::read_full(0, &mut file);
     if got < file.len() {
-        if !is_at_end() {
+        if !is_at_end(&rt) {
             io::write_all(2, b"solve: standard input cannot be read to its end\n");
             return;
         }

@@ -1,13 +1,11 @@
 -- The places that are left in both lists, filled from the entries that are left, give what all of them give.
 use mathlib.Core.Path.{refl, ◌∙◌}
-use Prim.Native.Nat.{◌-◌}
 use native.Mathlib.Omega.{arith}
-use borrow.Author.Rules.{rules}
 use Rattle.signed.proofs.Signs.{given}
 use Rattle.dutyfile.specs.File.{cost_of, size_of, parse}
 use Rattle.dutyfile.proofs.Facts.{header-fine}
 use Rattle.contents.proofs.Table.{table_at}
-use Rattle.reader.proofs.Filled.{Filling, filling_start, filling_next, filling_end}
+use Rattle.reader.proofs.Filled.{filling_start, filling_next, filling_end}
 use Rattle.reader.proofs.fill_columns.Goals as goal
 
 pub column_count-columns-requires : goal.column_count-columns-requires
@@ -27,7 +25,7 @@ bounds-table-k c =
     omega (arith, w.header.counts.columns.most, w.columns_is)
 
 pub offset_bounds-table-k : goal.offset_bounds-table-k
-offset_bounds-table-k c = omega (arith, array-copy-out-e c)
+offset_bounds-table-k c = (let w = c.loop-k.invariant.0 in omega (arith, w.header.counts.columns.most, w.columns_is))
 
 pub loop-k-preserved : goal.loop-k-preserved
 loop-k-preserved c =

@@ -1,13 +1,7 @@
 -- The places that are left in both lists, filled from the entries that are left, give what all of them give.
-use mathlib.Core.Path.{refl, ◌∙◌}
 use Prim.Native.Nat.{◌-◌}
-use native.Mathlib.Omega.{arith}
-use borrow.Author.Rules.{rules}
-use Rattle.signed.proofs.Signs.{given}
-use Rattle.dutyfile.specs.File.{cost_of, size_of, parse}
-use Rattle.dutyfile.proofs.Facts.{header-fine}
-use Rattle.contents.proofs.Table.{table_at}
-use Rattle.reader.proofs.Filled.{Filling, filling_start, filling_next, filling_end}
+use Rattle.dutyfile.specs.File.{cost_of, size_of}
+use Rattle.reader.proofs.Filled.{Filling}
 use Rattle.reader.proofs.fill_columns.Given as goal
 
 abbrev pub invariant-loop-k : goal.invariant-loop-k

@@ -3,7 +3,6 @@ use native.Mathlib.Nat.{zero-add}
 use native.Mathlib.Omega.{arith}
 use Rattle.dutyfile.proofs.Facts.{header-fine}
 use Rattle.reader.proofs.Filled.{rest_part, rest-filled}
-use borrow.Author.Rules.{rules}
 use Rattle.reader.proofs.fill_rows.Goals as goal
 
 pub column_count-requires : goal.column_count-requires

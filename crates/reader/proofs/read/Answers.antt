@@ -7,7 +7,6 @@ use Rattle.dutyfile.specs.File.{shape}
 use Rattle.dutyfile.specs.Faults.{file_fault}
 use Rattle.examine.specs.Answer.{read_outcome}
 use Rattle.reader.proofs.Rooms.{reading-refused, reading-short, reading-done, Roomy, roomy}
-use borrow.Author.Rules.{rules}
 use Rattle.reader.proofs.read.Goals as goal
 
 pub fill_columns-requires : goal.fill_columns-requires
