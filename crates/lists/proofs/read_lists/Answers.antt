@@ -1,14 +1,11 @@
 -- The reader fills the lists.
 use Rattle.lists.proofs.Read.{file_alone}
-use borrow.Author.Rules.{rules}
 use Rattle.lists.proofs.read_lists.Goals as goal
 
 pub returns : goal.returns
-returns c =
-    let h = c.requires in
-    record {
-      result_value = ((file_alone _ _ _ _ _ h c.read.ensures.result_value, c.read.ensures.1)).0;
-      costs_after = ((file_alone _ _ _ _ _ h c.read.ensures.result_value, c.read.ensures.1)).1.0;
-      lengths_after = ((file_alone _ _ _ _ _ h c.read.ensures.result_value, c.read.ensures.1)).1.1.0;
-      numbers_after = ((file_alone _ _ _ _ _ h c.read.ensures.result_value, c.read.ensures.1)).1.1.1;
+returns c = record {
+      result_value = file_alone _ _ _ _ _ c.requires c.read.ensures.result_value;
+      costs_after = c.read.ensures.costs_after;
+      lengths_after = c.read.ensures.lengths_after;
+      numbers_after = c.read.ensures.rows_after;
     }

@@ -1,6 +1,5 @@
 -- The file is examined, then the offered list; where both pass, the counts and the cost are those of the choice that is named.
-use Rattle.std.proofs.Common.{◌≡◌, true, sym, ap, ◌∙◌, arith, rules}
-use borrow.Author.Tests.{not-true, not-false}
+use Rattle.std.proofs.Common.{◌≡◌, true, sym, ap, ◌∙◌, arith}
 use Rattle.refusals.specs.Refusals.{fine, accepted}
 use Rattle.refusals.proofs.Laws.{accepts}
 use Rattle.signed.proofs.Signs.{given}
@@ -96,5 +95,5 @@ returns-else-not-columns_rise c =
     let r = ready in
     let t = c.total_cost in
     c.judge.ensures
-    ∙ ap accepted (verdict-is _ _ (offered _ _ r.0 r.1) _ _ _ c.cover_counts-covered.ensures (given _ t.type-inv ∙ t.ensures) rows_is)
+    ∙ ap accepted (verdict-is _ _ (offered _ _ r.0 r.1) _ _ _ c.cover_counts-covered.ensures (given _ t.type_inv ∙ t.ensures) rows_is)
     ∙ checking-done _ _ r.0 r.1

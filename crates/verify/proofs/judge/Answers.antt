@@ -1,9 +1,8 @@
 -- The rows that are left to look at give what all of them give.
-use Rattle.std.proofs.Common.{◌≡◌, ◌-◌, ◌≤◌, get_or, sym, ap, ◌∙◌, arith, to_z-of_z}
+use Rattle.std.proofs.Common.{get_or, sym, ap, ◌∙◌, arith, to_z-of_z}
 use native.Mathlib.Nat.{sub-zero}
-use Rattle.signed.specs.Signed.{signed}
 use Rattle.refusals.specs.Refusals.{accepted}
-use Rattle.verify.specs.Verdict.{lowest, check_outcome}
+use Rattle.verify.specs.Verdict.{check_outcome}
 use Rattle.verify.proofs.Verdicts.{lowest-stop, lowest_next, lowest-end}
 use Rattle.verify.proofs.judge.Goals as goal
 
