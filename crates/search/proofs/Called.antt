@@ -5,7 +5,7 @@ use mathlib.Core.List.{List}
 use Prim.Native.Nat.{ℕ, ◌≤◌}
 use native.Mathlib.Omega.{arith}
 use borrow.Author.Tests.{leb-true}
-use Rattle.refusals.specs.Refusals.{fine, fault, ◌then◌, accepted, refused, front, filled}
+use Rattle.refusals.specs.Refusals.{fine, fault, accepted, refused, front, filled}
 use Rattle.refusals.proofs.Laws.{both, asked, stops_at, goes_on, unless-fine, unless-fault, fills}
 use Rattle.node.specs.Matrix.{Matrix, width, Shows}
 use Rattle.node.specs.declared.Node.{Node}
