@@ -7,7 +7,7 @@ use lib.Dec.{leb}
 use lib.IntN.{ℤ}
 use lib.ListN.{length, take}
 use borrow.Author.Tests.{leb-true}
-use Rattle.refusals.specs.Refusals.{fine, Outcome, accepted, refused, front, filled}
+use Rattle.refusals.specs.Refusals.{fine, Outcome, accepted, refused, filled}
 use Rattle.refusals.proofs.Laws.{both, asked, stops_at, accepts, refuses, unless-fault, outcome_goes_on, fills, front-take}
 use Rattle.dutyfile.specs.declared.Shape.{Shape}
 use Rattle.dutyfile.specs.File.{Lists, lists, columns_in, parse, render, shape}

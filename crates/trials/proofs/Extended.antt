@@ -10,7 +10,7 @@ use lib.ListN.{length, drop, replicate, length-append, length-drop, length-repli
 use lib.Seq.{take-append-le, drop-append-le}
 use borrow.Author.Tests.{le-leb, lt-ltb}
 use Rattle.refusals.specs.Refusals.{fine, ask, ◌then◌}
-use Rattle.refusals.proofs.Laws.{both, passes}
+use Rattle.refusals.proofs.Laws.{both}
 use Rattle.node.specs.Lists.{from}
 use Rattle.node.proofs.Members.{length_from}
 use Rattle.dutyfile.specs.declared.Edition.{Edition}

@@ -18,7 +18,7 @@ use Rattle.node.specs.Stored.{Small}
 use Rattle.node.proofs.Members.{member-keep, keep-short, keep_swap, keep_cong, keep_all, upto_lt}
 use Rattle.node.proofs.Loops.{keep_append}
 use Rattle.rules.specs.Search.{none, plan, shown_by, is_none, is_stopped}
-use Rattle.rules.specs.Tree.{sum, live, answer}
+use Rattle.rules.specs.Tree.{sum, live}
 use Rattle.rules.specs.Demand.{Demand3}
 use Rattle.rules.proofs.Plans.{plan-short}
 use Rattle.rules.proofs.Sums.{count_same}

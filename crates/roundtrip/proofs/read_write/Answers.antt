@@ -8,7 +8,6 @@ use Rattle.dutyfile.proofs.Round.{Bytes}
 use Rattle.examine.specs.Answer.{read_outcome}
 use Rattle.writer.specs.Answer.{write_outcome}
 use Rattle.roundtrip.proofs.Laws.{Found, read_refused, found-fits, fronts_are, file-written, outcome_written}
-use borrow.Author.Rules.{rules}
 use Rattle.roundtrip.proofs.read_write.Goals as goal
 
 pub overflow_cast-shape : goal.overflow_cast-shape

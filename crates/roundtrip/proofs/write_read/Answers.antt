@@ -8,7 +8,6 @@ use Rattle.dutyfile.specs.Faults.{writing}
 use Rattle.examine.specs.Answer.{read_outcome}
 use Rattle.writer.specs.Answer.{write_outcome}
 use Rattle.roundtrip.proofs.Laws.{write_refused, written-fits, lists_read, outcome_read}
-use borrow.Author.Rules.{rules}
 use Rattle.roundtrip.proofs.write_read.Goals as goal
 
 pub slice_bounds-read-end : goal.slice_bounds-read-end

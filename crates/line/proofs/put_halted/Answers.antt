@@ -1,0 +1,16 @@
+-- Three numbers one after the other.
+use native.Mathlib.Omega.{arith}
+use mir.Syntax.{w64}
+use mir.Val.{SFits}
+use Rattle.line.specs.Line.{fields}
+use Rattle.line.proofs.Puts.{put_then, put_last, put_same}
+use borrow.Author.Rules.{rules}
+use Rattle.line.proofs.put_halted.Goals as goal
+
+pub returns : goal.returns
+unfolding fields
+returns c =
+    let third = c.put_number in
+    let second = c.put_number-duties in
+    let first = c.put_signed-nodes in
+    let f : SFits w64 c.args.halted.bound = search rules in record { upper_bound = omega (arith, first.ensures.0, second.ensures.0, third.ensures.0); put = put_then _ _ _ _ _ _ _ _ (put_same _ f _ _ _ _ first.ensures.1) (put_then _ _ _ _ _ _ _ _ second.ensures.1 (put_last _ _ _ _ _ third.ensures.1)) }
