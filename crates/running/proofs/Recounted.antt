@@ -11,7 +11,7 @@ use lib.ListN.{get_or, set, length-set, get_or-replicate}
 use lib.Seq.{get_or-set_same, get_or-set_other}
 use mir.Syntax.{w32}
 use mir.Val.{SFits}
-use Rattle.node.specs.Lists.{member, on, total}
+use Rattle.node.specs.Lists.{member, on}
 use Rattle.node.specs.Matrix.{Matrix, width, body, covers, count, signed_price}
 use Rattle.rules.proofs.Sums.{total_cong, total_le, total-ones, total-zero, on_one, count_same}
 use Rattle.signed.proofs.Exact.{sum_exact, difference_exact}

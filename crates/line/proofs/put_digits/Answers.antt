@@ -3,7 +3,6 @@ use Prim.Native.Nat.{◌≤◌}
 use native.Mathlib.Omega.{arith}
 use Rattle.line.proofs.Numerals.{few_digits}
 use Rattle.line.proofs.Puts.{put_digits}
-use borrow.Author.Rules.{rules}
 use Rattle.line.proofs.put_digits.Goals as goal
 
 pub put-requires : goal.put-requires
@@ -19,4 +18,4 @@ overflow_add-result c =
 pub returns : goal.returns
 returns c =
     let few : c.decimal-k.result ≤ 20 = few_digits c.decimal-k.result c.args.n c.decimal-k.ensures.len (omega arith) in
-    let a = c.args in record { upper_bound = omega (arith, few); put = put_digits a.out.now _ _ a.at a.n c.decimal-k.result few c.decimal-k.ensures.len c.decimal-k.ensures.1.1 c.put.ensures }
+    let a = c.args in record { upper_bound = omega (arith, few); put = put_digits a.out.now _ _ a.at a.n c.decimal-k.result few c.decimal-k.ensures.len c.decimal-k.ensures.digits c.put.ensures }

@@ -13,4 +13,4 @@ returns c =
     let third = c.put_number in
     let second = c.put_number-duties in
     let first = c.put_signed-nodes in
-    let f : SFits w64 c.args.halted.bound = search rules in record { upper_bound = omega (arith, first.ensures.0, second.ensures.0, third.ensures.0); put = put_then _ _ _ _ _ _ _ _ (put_same _ f _ _ _ _ first.ensures.1) (put_then _ _ _ _ _ _ _ _ second.ensures.1 (put_last _ _ _ _ _ third.ensures.1)) }
+    let f : SFits w64 c.args.halted.bound = search rules in record { upper_bound = omega (arith, first.ensures.upper_bound, second.ensures.upper_bound, third.ensures.upper_bound); put = put_then _ _ _ _ _ _ _ _ (put_same _ f _ _ _ _ first.ensures.put) (put_then _ _ _ _ _ _ _ _ second.ensures.put (put_last _ _ _ _ _ third.ensures.put)) }
