@@ -29,22 +29,19 @@ returns-in-None c = rw (c.searched-in-None.ensures, c.in-None.is)
 pub returns-in-Stopped : goal.returns-in-Stopped
 unfolding answer_of search_outcome
 returns-in-Stopped c =
-    let a = c.answer-in-Stopped-1 in
-    let f : SFits w64 a.given.0.0.bound = search rules in
-    rw (c.searched-in-Stopped.ensures, a.given.1, to_z-of_z f)
+    let f : SFits w64 c.in-Stopped.at.bound = search rules in
+    rw (c.searched-in-Stopped.ensures, c.in-Stopped.is, to_z-of_z f)
 
 pub returns-in-Best : goal.returns-in-Best
 unfolding answer_of search_outcome
 returns-in-Best c =
-    let a = c.answer-in-Best-1 in
-    let f : SFits w64 a.given.0.0.cost = search rules in
-    let g : SFits w64 a.given.0.0.bound = search rules in
-    rw (c.searched-in-Best.ensures, a.given.1, to_z-of_z f, to_z-of_z g)
+    let f : SFits w64 c.in-Best.plan.cost = search rules in
+    let g : SFits w64 c.in-Best.plan.bound = search rules in
+    rw (c.searched-in-Best.ensures, c.in-Best.is, to_z-of_z f, to_z-of_z g)
 
 pub returns-in-StoppedWith : goal.returns-in-StoppedWith
 unfolding answer_of search_outcome
 returns-in-StoppedWith c =
-    let a = c.answer-in-StoppedWith-1 in
-    let f : SFits w64 a.given.0.0.cost = search rules in
-    let g : SFits w64 a.given.0.0.bound = search rules in
-    rw (c.searched-in-StoppedWith.ensures, a.given.1, to_z-of_z f, to_z-of_z g)
+    let f : SFits w64 c.in-StoppedWith.kept.cost = search rules in
+    let g : SFits w64 c.in-StoppedWith.kept.bound = search rules in
+    rw (c.searched-in-StoppedWith.ensures, c.in-StoppedWith.is, to_z-of_z f, to_z-of_z g)

@@ -20,11 +20,10 @@ returns-in-Refused c = rw (c.checked.ensures, c.number.ensures, c.in-Refused.is)
 pub returns-in-Plan : goal.returns-in-Plan
 unfolding checked_of check_outcome
 returns-in-Plan c =
-    let a = c.answer-in-Plan-1 in
     let w = c.wide in
-    let f : SFits w32 a.given.0.0 = search rules in
+    let f : SFits w32 c.in-Plan.cost = search rules in
     let g : SFits w64 w.result = search rules in
-    rw (c.checked-in-Plan.ensures, a.given.1, to_z-of_z g, w.ensures, to_z-of_z f)
+    rw (c.checked-in-Plan.ensures, c.in-Plan.is, to_z-of_z g, w.ensures, to_z-of_z f)
 
 pub returns-in-NotOnce : goal.returns-in-NotOnce
 unfolding checked_of check_outcome

@@ -20,6 +20,5 @@ returns-in-Refused c = rw (c.reduced.ensures, c.number.ensures, c.in-Refused.is)
 pub returns-in-Reduced : goal.returns-in-Reduced
 unfolding reduced_of reduce_outcome
 returns-in-Reduced c =
-    let a = c.answer-in-Reduced-1 in
-    let f : SFits w64 a.given.0.0.bound = search rules in
-    rw (c.reduced-in-Reduced.ensures, a.given.1, to_z-of_z f)
+    let f : SFits w64 c.in-Reduced.found.bound = search rules in
+    rw (c.reduced-in-Reduced.ensures, c.in-Reduced.is, to_z-of_z f)
