@@ -1,0 +1,5 @@
+-- The call's own clauses, with its outcome in place of its answer.
+use Rattle.spp.proofs.spp_core_desk_add.Goals as goal
+
+pub returns : goal.returns
+returns c = record { value = rw c.add-said.ensures.result_value at c.flat_step.ensures; total_after = c.add-said.ensures.total_after }
