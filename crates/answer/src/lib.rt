@@ -1,5 +1,6 @@
 // The answer of a search that has ended, and the plan that it shows, written into a list.
 #![tactic(auto)]
+
 ghost use Rattle.std.specs.Prelude.{◌≡◌, map, suc, length};
 ghost use Rattle.refusals.specs.Refusals.{accepted, front};
 ghost use Rattle.rules.specs.Search.{shown_by};

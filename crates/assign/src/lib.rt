@@ -1,5 +1,6 @@
 // The public call for crews onto vessels (02, P5): the table is tested, and the least total is found by the sets of used vessels.
 #![tactic(auto)]
+
 ghost use Rattle.std.specs.Prelude.{◌≡◌, ◌≤◌, get_or, length};
 ghost use Rattle.refusals.specs.Refusals.{fault_of, accepted, front, filled};
 ghost use Rattle.assignments.specs.Cheapest.{best};

@@ -1,5 +1,6 @@
 // Row statistics, and the best candidate of a node.
 #![tactic(auto)]
+
 ghost use Rattle.std.specs.Prelude.{◌≡◌, ◌&&◌, ◌≤◌, ◌<◌, eqb, []};
 ghost use Rattle.rules.specs.Reduce.{candidate};
 ghost use Rattle.node.specs.Stored.{matrix_in, Kept, HasRow, Columns};

@@ -1,5 +1,6 @@
 // The choice of the row to branch on, and the bound of the branch without the column.
 #![tactic(auto)]
+
 ghost use Rattle.std.specs.Prelude.{◌≡◌, [], ◌+◌, ◌≤◌, ◌<◌, length};
 ghost use Rattle.node.specs.Passes.{better};
 ghost use Rattle.rules.specs.Tree.{above_p};

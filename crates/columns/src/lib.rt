@@ -1,5 +1,6 @@
 // The choice of the column to branch on.
 #![tactic(auto)]
+
 ghost use Rattle.std.specs.Prelude.{◌≡◌, []};
 ghost use Rattle.node.specs.Lists.{keep};
 ghost use Rattle.node.specs.Stored.{matrix_in, Kept, HasRow, HasColumn, Columns};

@@ -1,6 +1,7 @@
 // A reader of a file's contents: it holds the file and the number of the next entry. `entries`, whose parameters
 // are plain, walks a file forward with it.
 #![tactic(auto)]
+
 ghost use Rattle.std.specs.Prelude.{◌≡◌, ◌+◌, ◌*◌, ◌≤◌, length, take, drop};
 ghost use Rattle.refusals.specs.Refusals.{fine};
 ghost use Rattle.dutyfile.specs.File.{columns_in, bodies_at, entry_of, entries};

@@ -1,5 +1,6 @@
 // The numbers that tell how rows are covered, as the rows of one column are counted in or out (02, P7).
 #![tactic(auto)]
+
 ghost use Rattle.std.specs.Prelude.{◌≡◌, true};
 ghost use Rattle.dutyfile.specs.Faults.{rising};
 ghost use Rattle.counts.specs.Counts.{counts_of, off_by, rows_moved};

@@ -1,5 +1,6 @@
 // The running plan on the desk (02, P7): columns are added and removed one by one, and what they cover and cost is kept.
 #![tactic(auto)]
+
 ghost use Rattle.std.specs.Prelude.{◌≡◌, true, ◌-◌, ◌<◌, drop, replicate};
 ghost use Rattle.refusals.specs.Refusals.{fault_of, unless};
 ghost use Rattle.dutyfile.specs.File.{bodies_at, entry_of};

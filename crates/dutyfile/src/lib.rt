@@ -1,5 +1,6 @@
 // The duty file's entries, and the tests that reader and writer share.
 #![tactic(auto)]
+
 ghost use Rattle.std.specs.Prelude.{◌≡◌, ◌+◌, ◌*◌, ◌≤◌, length, take, drop, replicate};
 ghost use Rattle.endian.specs.Bytes.{same};
 ghost use Rattle.refusals.specs.Refusals.{fault_of};

@@ -1,5 +1,6 @@
 // The tests of a file, 1 to 9, in 01's sequence.
 #![tactic(auto)]
+
 ghost use Rattle.std.specs.Prelude.{◌≡◌, ◌||◌, ◌+◌, ◌*◌, take};
 ghost use Rattle.endian.specs.Bytes.{same};
 ghost use Rattle.refusals.specs.Refusals.{fine, fault_of, unless};

@@ -1,6 +1,7 @@
 // Reads duty files from standard input, each on a line as a name and its bytes in hexadecimal, writes back the lists of an accepted
 // one by the writer of its edition, and prints what this comes to; then tries lists of other lengths, and offered plans.
 #![tactic(auto)]
+
 use dutyfile::Edition;
 use examine::ReadAnswer;
 use refusals::Refusal;

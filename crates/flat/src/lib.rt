@@ -1,5 +1,6 @@
 // The answers of the calls as structs of numbers for C, with 0 in each field that the answer has no value for.
 #![tactic(auto)]
+
 ghost use Rattle.std.specs.Prelude.{◌≡◌};
 ghost use Rattle.examine.specs.Answer.{read_outcome};
 ghost use Rattle.writer.specs.Answer.{write_outcome};

@@ -1,5 +1,6 @@
 // The assigning call's answer as a struct of numbers for C, with 0 in each field that the answer has no value for.
 #![tactic(auto)]
+
 ghost use Rattle.std.specs.Prelude.{◌≡◌};
 ghost use Rattle.assign.specs.Answer.{assign_outcome};
 ghost use Rattle.flat_assign.specs.Struct.{assigned_of};

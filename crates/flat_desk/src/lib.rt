@@ -1,5 +1,6 @@
 // The answers of the desk's calls as numbers for C, with 0 in each field that an answer has no value for.
 #![tactic(auto)]
+
 ghost use Rattle.std.specs.Prelude.{◌≡◌};
 ghost use Rattle.refusals.specs.Refusals.{fault_of};
 ghost use Rattle.desk.specs.Steps.{step_outcome};

@@ -1,6 +1,7 @@
 // The answer of the call for sailings that can't be crewed as a struct of numbers for C, with 0 in each field that the answer has no value
 // for.
 #![tactic(auto)]
+
 ghost use Rattle.std.specs.Prelude.{◌≡◌};
 ghost use Rattle.uncrewed.specs.Answer.{uncrewed_outcome};
 ghost use Rattle.flat_uncrewed.specs.Struct.{uncrewed_of};

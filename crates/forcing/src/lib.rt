@@ -1,5 +1,6 @@
 // Forcing (01, Forcing): what a row asks by its free columns, and what the open rows ask together.
 #![tactic(auto)]
+
 ghost use Rattle.std.specs.Prelude.{◌≡◌, [], length};
 ghost use Rattle.node.specs.Lists.{first};
 ghost use Rattle.node.specs.View.{view};

@@ -1,6 +1,7 @@
 // What differs by the goal of a search: the bound as a column is taken; and for the longest duty the bound raised, where the sum reduces,
 // and the present costs.
 #![tactic(auto)]
+
 ghost use Rattle.std.specs.Prelude.{◌≡◌, cond, ◌+◌, ◌-◌, ◌<◌, max, min};
 ghost use Rattle.node.specs.View.{node_of};
 ghost use Rattle.node.specs.Stored.{matrix_in, Kept, Columns};

@@ -1,5 +1,6 @@
 // Duty files as text, for the test programs: lines of words that are parted by spaces, the last of which is a file in hexadecimal.
 #![tactic(auto)]
+
 ghost use Rattle.std.specs.Prelude.{◌≡◌, ◌≤◌, min, length};
 ghost use Rattle.std.proofs.lemmas.List.Edits.{sets};
 ghost use Rattle.hexadecimal.specs.Text.{digit_of, byte_of, decoded, place_of};

@@ -1,5 +1,6 @@
 // The line that the program prints for an answer, as text in a buffer.
 #![tactic(auto)]
+
 ghost use Rattle.std.specs.Prelude.{[], ◌∷◌, ◌+◌, ◌≤◌, pos, length};
 ghost use Rattle.answer.specs.Answer.{search_outcome};
 ghost use Rattle.line.specs.Line.{decimal, field, fields, words_of, line_of};

@@ -1,5 +1,6 @@
 // A file read as the list of its matrix and a table of its costs in a search.
 #![tactic(auto)]
+
 ghost use Rattle.std.specs.Prelude.{◌≡◌, pos, length, replicate};
 ghost use Rattle.refusals.specs.Refusals.{unless, front, filled};
 ghost use Rattle.refusals.specs.declared.Refusal.{Refusal};

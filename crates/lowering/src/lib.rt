@@ -1,5 +1,6 @@
 // Reducing a node: the step, and the loop that ends when no candidate is left.
 #![tactic(auto)]
+
 ghost use Rattle.std.specs.Prelude.{◌≡◌, [], replicate};
 ghost use Rattle.node.specs.View.{view};
 ghost use Rattle.node.specs.Stored.{matrix_in, Columns};

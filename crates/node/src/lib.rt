@@ -1,5 +1,6 @@
 // The node that the code passes by value, and the steps that decide a column. The definitions are in specs/.
 #![tactic(auto)]
+
 ghost use Rattle.std.specs.Prelude.{◌≡◌, ◌+◌, ◌≤◌, ◌<◌, length};
 ghost use Rattle.node.specs.Matrix.{width, body, span};
 ghost use Rattle.node.specs.Node.{take, leave};

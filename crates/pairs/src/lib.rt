@@ -1,5 +1,6 @@
 // Pairs of columns (02, P8): what a pair asks, the pairs gone through in list sequence, and forcing and pairs done until nothing changes.
 #![tactic(auto)]
+
 ghost use Rattle.std.specs.Prelude.{◌≡◌, false, [], ◌<◌};
 ghost use Rattle.node.specs.Matrix.{Matrix};
 ghost use Rattle.node.specs.View.{view};

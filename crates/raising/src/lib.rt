@@ -1,5 +1,6 @@
 // The costs that a search works with, raised from those in a file (02, P10).
 #![tactic(auto)]
+
 ghost use Rattle.std.specs.Prelude.{◌≡◌, ◌≤◌, length, replicate};
 ghost use Rattle.refusals.specs.Refusals.{front};
 ghost use Rattle.dutyfile.specs.File.{shift, raised, raised_all};

@@ -1,5 +1,6 @@
 // The reader: a file is tested whole, and only then are the lent lists filled.
 #![tactic(auto)]
+
 ghost use Rattle.std.specs.Prelude.{◌≡◌, ◌+◌, ◌*◌, ◌≤◌, length};
 ghost use Rattle.refusals.specs.Refusals.{fine, fault_of, front, filled};
 ghost use Rattle.dutyfile.specs.File.{columns_in, parse};

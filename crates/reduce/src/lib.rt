@@ -1,5 +1,6 @@
 // The reducing call on a file.
 #![tactic(auto)]
+
 ghost use Rattle.std.specs.Prelude.{◌≡◌, map, pos, length, take};
 ghost use Rattle.refusals.specs.Refusals.{fault_of, unless, filled, front};
 ghost use Rattle.reduce.specs.Room.{CostRoom, Room};

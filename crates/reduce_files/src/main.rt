@@ -1,6 +1,7 @@
 // Writes duty files from lists, the paper's examples 1 to 4 and two larger ones, reduces them and prints what each comes to: the lower
 // bound, the rows in the sequence used and the reduced costs. Then example 1 with lists that hold just enough places, or one too few.
 #![tactic(auto)]
+
 ghost use Rattle.std.specs.Prelude.{◌≡◌, ◌+◌, ◌≤◌, length};
 
 use reduce::ReduceAnswer;

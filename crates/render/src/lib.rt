@@ -1,5 +1,6 @@
 // A file's bytes, written at the front of a buffer from lists that pass their tests.
 #![tactic(auto)]
+
 ghost use Rattle.std.specs.Prelude.{◌≡◌, ◌+◌, ◌*◌, ◌≤◌, ◌<◌, length};
 ghost use Rattle.std.proofs.lemmas.List.Edits.{sets};
 ghost use Rattle.refusals.specs.Refusals.{fine, front};

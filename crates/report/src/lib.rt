@@ -1,5 +1,6 @@
 // The search of a duty file, and the line that the program prints for it.
 #![tactic(auto)]
+
 ghost use Rattle.std.specs.Prelude.{◌≡◌, ◌≤◌, length};
 ghost use Rattle.refusals.specs.Refusals.{front, filled};
 ghost use Rattle.line.specs.Line.{line_of};

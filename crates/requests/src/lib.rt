@@ -1,6 +1,7 @@
 // What a desk asks of a plan, done to the root (02, P2 and P9): absent columns are left, then the agreed columns that are not absent are
 // taken.
 #![tactic(auto)]
+
 ghost use Rattle.std.specs.Prelude.{◌≡◌};
 ghost use Rattle.node.specs.Lists.{member};
 ghost use Rattle.node.specs.Matrix.{Matrix};

@@ -1,5 +1,6 @@
 // The root node of a matrix.
 #![tactic(auto)]
+
 ghost use Rattle.std.specs.Prelude.{◌≡◌, ◌≤◌, length};
 ghost use Rattle.node.specs.Node.{root};
 ghost use Rattle.node.specs.Stored.{matrix_in, Kept};

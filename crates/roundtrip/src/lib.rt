@@ -1,5 +1,6 @@
 // The round trip: the writer's and the reader's call, one after the other.
 #![tactic(auto)]
+
 ghost use Rattle.std.specs.Prelude.{◌≡◌, length};
 ghost use Rattle.refusals.specs.Refusals.{filled};
 ghost use Rattle.dutyfile.specs.File.{lists, parse, render};

@@ -1,6 +1,7 @@
 // The public search calls on a file: the file is read as a matrix and costs, searched from its root with what a desk asks of a plan, and
 // the plan shown is written.
 #![tactic(auto)]
+
 ghost use Rattle.std.specs.Prelude.{◌≡◌, List, ℕ, pos, length};
 ghost use Rattle.refusals.specs.Refusals.{fine, fault_of, accepted, filled};
 ghost use Rattle.node.specs.Matrix.{Matrix, signed_price};

@@ -1,5 +1,6 @@
 // How many free columns at cost 0 share a row with a column.
 #![tactic(auto)]
+
 ghost use Rattle.std.specs.Prelude.{◌≡◌, ℕ, ◌≤◌, ◌<◌, length, get_or};
 ghost use Rattle.node.specs.Stored.{matrix_in, HasBody, Columns};
 ghost use Rattle.candidates.specs.Row.{zero_in};

@@ -1,5 +1,6 @@
 // Signed numbers: from and to their 32 bits, sums and differences that wrap, in 64 bits, and without the sign.
 #![tactic(auto)]
+
 ghost use Rattle.std.specs.Prelude.{◌≡◌, unsigned_abs};
 ghost use Rattle.signed.specs.Signed.{signed, bits, sum32, difference32};
 

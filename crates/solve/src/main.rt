@@ -1,5 +1,6 @@
 // Reads a duty file from standard input and prints what its search comes to, on one line.
 #![tactic(auto)]
+
 ghost use Rattle.std.specs.Prelude.{◌≤◌};
 
 use std::io::Read;

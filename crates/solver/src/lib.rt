@@ -1,6 +1,7 @@
 // The search of a matrix from a start, a first node that is alive or dead: the tally of the walk within a node limit, and the first node's
 // lower bound.
 #![tactic(auto)]
+
 ghost use Rattle.std.specs.Prelude.{◌≡◌};
 ghost use Rattle.node.specs.Matrix.{Matrix, width};
 ghost use Rattle.node.specs.Stored.{matrix_in};

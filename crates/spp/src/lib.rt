@@ -1,6 +1,7 @@
 // The engine for C: each exported function makes one call and gives its answer as a struct of numbers. A list is a pointer and a number of
 // places.
 #![tactic(auto)]
+
 ghost use Rattle.std.specs.Prelude.{◌≡◌, List, ℕ, pos, length};
 ghost use Rattle.refusals.specs.Refusals.{accepted, filled};
 ghost use Rattle.node.specs.Matrix.{Matrix, signed_price};

@@ -1,5 +1,6 @@
 // The tally of a walk.
 #![tactic(auto)]
+
 ghost use Rattle.std.specs.Prelude.{◌≡◌, true, ◌&&◌, ℕ, ◌+◌, ◌<◌, leb};
 ghost use Rattle.rules.specs.Limited.{fresh, entered, halted, offered};
 ghost use Rattle.tally.specs.Tally.{taken_in, shown};

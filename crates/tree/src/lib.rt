@@ -1,5 +1,6 @@
 // The tree (01, The tree): a node opens branches and a branch enters a node; the number of free columns falls.
 #![tactic(auto)]
+
 ghost use Rattle.std.specs.Prelude.{◌≡◌, ℕ, ◌+◌, ◌≤◌, ◌<◌};
 ghost use Rattle.node.specs.Matrix.{Matrix, width};
 ghost use Rattle.node.specs.View.{node_of};

@@ -1,5 +1,6 @@
 // One trial (02, P6): its lists, made from those of a file, and its search.
 #![tactic(auto)]
+
 ghost use Rattle.std.specs.Prelude.{◌≡◌, suc, ◌+◌, ◌-◌, ◌≤◌, pos, replicate};
 ghost use Rattle.std.proofs.lemmas.List.Edits.{sets};
 ghost use Rattle.node.specs.Lists.{from};

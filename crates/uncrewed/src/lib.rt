@@ -1,5 +1,6 @@
 // The public call that finds which sailings can't be crewed (02, P6): the file is read, and its trials are searched one after another.
 #![tactic(auto)]
+
 ghost use Rattle.std.specs.Prelude.{◌≡◌, ◌≤◌, length, replicate};
 ghost use Rattle.refusals.specs.Refusals.{fault_of, accepted, unless, front, filled};
 ghost use Rattle.dutyfile.specs.File.{parse};

@@ -1,5 +1,6 @@
 // The plan check: how often each row is covered is counted column by column, and the lowest row that is off is told.
 #![tactic(auto)]
+
 ghost use Rattle.std.specs.Prelude.{◌≡◌, ℕ, ◌+◌, ◌<◌, ◌≤◌, true, length, slice_index};
 ghost use Rattle.refusals.specs.Refusals.{fine, accepted};
 ghost use Rattle.node.specs.Matrix.{signed_price, named};

@@ -1,6 +1,7 @@
 // The least totals by sets of used vessels, as a table of 65,536 places, and the vessels that keep the least total. A set is a number in which
 // vessel j, counted from 0, weighs 2 to the power j; as many crews have their vessel as the set holds.
 #![tactic(auto)]
+
 ghost use Rattle.std.specs.Prelude.{◌≡◌, map, suc, ◌+◌, ◌^◌, ◌%◌, ◌<◌, ◌≤◌, get_or, length};
 ghost use Rattle.refusals.specs.Refusals.{front};
 ghost use Rattle.assignments.specs.Sets.{no_total, offer, lower, pick as pick_of, least_total, vessels as vesselsOf, count as count_of};

@@ -1,5 +1,6 @@
 // What a node comes to when it is forced and reduced.
 #![tactic(auto)]
+
 ghost use Rattle.std.specs.Prelude.{◌≡◌, []};
 ghost use Rattle.node.specs.Lists.{is_empty};
 ghost use Rattle.node.specs.Node.{open_rows};

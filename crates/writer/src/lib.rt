@@ -1,5 +1,6 @@
 // The writer: the lists are tested whole, and only then is the lent buffer written.
 #![tactic(auto)]
+
 ghost use Rattle.std.specs.Prelude.{◌≡◌, ◌+◌, ◌≤◌, length};
 ghost use Rattle.refusals.specs.Refusals.{fault_of, unless, filled};
 ghost use Rattle.dutyfile.specs.declared.Edition.TheVariants.{Spp1, Spp2};

@@ -27,8 +27,8 @@ pub returns-then-vessels-crews : goal.returns-then-vessels-crews
 unfolding fault_of sizes_fault ask ◌then◌
 returns-then-vessels-crews c =
     let within : let a = c.args in
-        (leb 1 a.crews ≡ true) × (leb a.crews 16 ≡ true) × (leb a.vessels 16 ≡ true) = let a = c.args in
-        (le-leb 1 a.crews c.if-crews-lt1.false, le-leb a.crews 16 c.if-crews-gt16.false, le-leb a.vessels 16 c.if-vessels-gt16.false) in
+    (leb 1 a.crews ≡ true) × (leb a.crews 16 ≡ true) × (leb a.vessels 16 ≡ true) = let a = c.args in
+    (le-leb 1 a.crews c.if-crews-lt1.false, le-leb a.crews 16 c.if-crews-gt16.false, le-leb a.vessels 16 c.if-vessels-gt16.false) in
     let w = within in
     let a = c.args in
     simp (sizes_fault, w.0, w.1, w.2, lt-leb a.crews a.vessels c.if-vessels-crews.true)
@@ -37,8 +37,8 @@ pub returns : goal.returns
 unfolding fault_of sizes_fault ask ◌then◌
 returns c =
     let within : let a = c.args in
-        (leb 1 a.crews ≡ true) × (leb a.crews 16 ≡ true) × (leb a.vessels 16 ≡ true) = let a = c.args in
-        (le-leb 1 a.crews c.if-crews-lt1.false, le-leb a.crews 16 c.if-crews-gt16.false, le-leb a.vessels 16 c.if-vessels-gt16.false) in
+    (leb 1 a.crews ≡ true) × (leb a.crews 16 ≡ true) × (leb a.vessels 16 ≡ true) = let a = c.args in
+    (le-leb 1 a.crews c.if-crews-lt1.false, le-leb a.crews 16 c.if-crews-gt16.false, le-leb a.vessels 16 c.if-vessels-gt16.false) in
     let w = within in
     let a = c.args in
     simp (sizes_fault, w.0, w.1, w.2, le-leb a.crews a.vessels c.if-vessels-crews.false)

@@ -26,11 +26,10 @@ pub column_statistics-found-requires : goal.column_statistics-found-requires
 column_statistics-found-requires c = picking_column _ _ _ _ _ _ c.loop-k.invariant c.loop-k-test.true
 
 pub column_precedes-requires : goal.column_precedes-requires
-column_precedes-requires c =
-    (
-      picking_few _ _ _ _ _ _ c.loop-k.invariant c.loop-k-test.true _ c.column_statistics-found.ensures,
-      c.loop-k.invariant.few,
-    )
+column_precedes-requires c = (
+  picking_few _ _ _ _ _ _ c.loop-k.invariant c.loop-k-test.true _ c.column_statistics-found.ensures,
+  c.loop-k.invariant.few,
+)
 
 pub loop-k-smaller-then-column_precedes : goal.loop-k-smaller-then-column_precedes
 loop-k-smaller-then-column_precedes c = omega (arith, c.loop-k-test.true)

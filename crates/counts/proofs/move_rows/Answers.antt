@@ -13,31 +13,31 @@ overflow_cast-i c = omega (arith, c.type_inv.body c.loop-k.k)
 pub overflow_sub-i : goal.overflow_sub-i
 overflow_sub-i c =
     let row_range : let r = get_or c.args.body.now c.loop-k.k 0 in
-        (1 ≤ r) × (r ≤ 64) = rising-at 0 64 _ _ c.requires c.loop-k-test.true in
+    (1 ≤ r) × (r ≤ 64) = rising-at 0 64 _ _ c.requires c.loop-k-test.true in
     row_range.0
 
 pub offset_bounds-covered-i : goal.offset_bounds-covered-i
 offset_bounds-covered-i c =
     let row_range : let r = get_or c.args.body.now c.loop-k.k 0 in
-        (1 ≤ r) × (r ≤ 64) = rising-at 0 64 _ _ c.requires c.loop-k-test.true in
+    (1 ≤ r) × (r ≤ 64) = rising-at 0 64 _ _ c.requires c.loop-k-test.true in
     omega (arith, row_range.1)
 
 pub bounds-covered-i : goal.bounds-covered-i
 bounds-covered-i c =
     let row_range : let r = get_or c.args.body.now c.loop-k.k 0 in
-        (1 ≤ r) × (r ≤ 64) = rising-at 0 64 _ _ c.requires c.loop-k-test.true in
+    (1 ≤ r) × (r ≤ 64) = rising-at 0 64 _ _ c.requires c.loop-k-test.true in
     omega (arith, row_range.1)
 
 pub offset_bounds-covered-i-in-loop-k : goal.offset_bounds-covered-i-in-loop-k
 offset_bounds-covered-i-in-loop-k c =
     let row_range : let r = get_or c.args.body.now c.loop-k.k 0 in
-        (1 ≤ r) × (r ≤ 64) = rising-at 0 64 _ _ c.requires c.loop-k-test.true in
+    (1 ≤ r) × (r ≤ 64) = rising-at 0 64 _ _ c.requires c.loop-k-test.true in
     omega (arith, row_range.1)
 
 pub bounds-covered-i-in-loop-k : goal.bounds-covered-i-in-loop-k
 bounds-covered-i-in-loop-k c =
     let row_range : let r = get_or c.args.body.now c.loop-k.k 0 in
-        (1 ≤ r) × (r ≤ 64) = rising-at 0 64 _ _ c.requires c.loop-k-test.true in
+    (1 ≤ r) × (r ≤ 64) = rising-at 0 64 _ _ c.requires c.loop-k-test.true in
     omega (arith, row_range.1)
 
 pub loop-k-preserved : goal.loop-k-preserved

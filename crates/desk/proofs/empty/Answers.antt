@@ -16,8 +16,8 @@ pub overflow_cast-off : goal.overflow_cast-off
 unfolding read_outcome shape
 overflow_cast-off c =
     let found : let s = c.args.file.now in
-        (file_fault s ≡ fine) × (c.in-Accepted.shape.rows ≡ rows_in s) = let a = accepts _ _ _ (sym (rw c.in-Accepted.is at c.examine-found.ensures)) in
-        (a.0, ap (λ (h : Shape). h.rows) (sym a.1)) in
+    (file_fault s ≡ fine) × (c.in-Accepted.shape.rows ≡ rows_in s) = let a = accepts _ _ _ (sym (rw c.in-Accepted.is at c.examine-found.ensures)) in
+    (a.0, ap (λ (h : Shape). h.rows) (sym a.1)) in
     let f = found in
     record { fits = omega (arith, f.1, (file-fine _ f.0).walked.header.counts.rows.most) }
 
@@ -29,6 +29,6 @@ pub returns-in-Accepted : goal.returns-in-Accepted
 unfolding fault_of empty_desk read_outcome shape
 returns-in-Accepted c =
     let found : let s = c.args.file.now in
-        (file_fault s ≡ fine) × (c.in-Accepted.shape.rows ≡ rows_in s) = let a = accepts _ _ _ (sym (rw c.in-Accepted.is at c.examine-found.ensures)) in
-        (a.0, ap (λ (h : Shape). h.rows) (sym a.1)) in
+    (file_fault s ≡ fine) × (c.in-Accepted.shape.rows ≡ rows_in s) = let a = accepts _ _ _ (sym (rw c.in-Accepted.is at c.examine-found.ensures)) in
+    (a.0, ap (λ (h : Shape). h.rows) (sym a.1)) in
     let f = found in record { result_value = sym f.0; total_after = rw (c.no_marks.ensures, c.no_counts.ensures, f.1) (empty_made _ _ f.0) }

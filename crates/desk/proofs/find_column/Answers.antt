@@ -18,16 +18,16 @@ pub returns-then-number-lt1 : goal.returns-then-number-lt1
 unfolding column_outcome read_outcome shape
 returns-then-number-lt1 c =
     let found : let s = c.args.file.now in
-        (file_fault s ≡ fine) × (c.in-Accepted.shape.columns ≡ columns_in s) = let a = accepts _ _ _ (sym (rw c.in-Accepted.is at c.examine-found.ensures)) in
-        (a.0, ap (λ (h : Shape). h.columns) (sym a.1)) in
+    (file_fault s ≡ fine) × (c.in-Accepted.shape.columns ≡ columns_in s) = let a = accepts _ _ _ (sym (rw c.in-Accepted.is at c.examine-found.ensures)) in
+    (a.0, ap (λ (h : Shape). h.columns) (sym a.1)) in
     unless-fault _ 19 (fault-low _ _ found.0 c.if-number-lt1.true)
 
 pub returns-then-shape-number : goal.returns-then-shape-number
 unfolding column_outcome read_outcome shape
 returns-then-shape-number c =
     let found : let s = c.args.file.now in
-        (file_fault s ≡ fine) × (c.in-Accepted.shape.columns ≡ columns_in s) = let a = accepts _ _ _ (sym (rw c.in-Accepted.is at c.examine-found.ensures)) in
-        (a.0, ap (λ (h : Shape). h.columns) (sym a.1)) in
+    (file_fault s ≡ fine) × (c.in-Accepted.shape.columns ≡ columns_in s) = let a = accepts _ _ _ (sym (rw c.in-Accepted.is at c.examine-found.ensures)) in
+    (a.0, ap (λ (h : Shape). h.columns) (sym a.1)) in
     let f = found in
     unless-fault _ 19 (fault_high _ _ f.0 (omega arith) (omega (arith, f.1)))
 
@@ -35,13 +35,13 @@ pub entry_at-requires : goal.entry_at-requires
 unfolding read_outcome shape
 entry_at-requires c =
     let found : let s = c.args.file.now in
-        (file_fault s ≡ fine) × (c.in-Accepted.shape.columns ≡ columns_in s) = let a = accepts _ _ _ (sym (rw c.in-Accepted.is at c.examine-found.ensures)) in
-        (a.0, ap (λ (h : Shape). h.columns) (sym a.1)) in
+    (file_fault s ≡ fine) × (c.in-Accepted.shape.columns ≡ columns_in s) = let a = accepts _ _ _ (sym (rw c.in-Accepted.is at c.examine-found.ensures)) in
+    (a.0, ap (λ (h : Shape). h.columns) (sym a.1)) in
     let inside : let a = c.args in
-        (1 ≤ a.number) × (a.number ≤ columns_in a.file.now) = let found : let s = c.args.file.now in
-            (file_fault s ≡ fine) × (c.in-Accepted.shape.columns ≡ columns_in s) = let a = accepts _ _ _ (sym (rw c.in-Accepted.is at c.examine-found.ensures)) in
-            (a.0, ap (λ (h : Shape). h.columns) (sym a.1)) in
-        (omega arith, omega (arith, found.1)) in
+    (1 ≤ a.number) × (a.number ≤ columns_in a.file.now) = let found : let s = c.args.file.now in
+    (file_fault s ≡ fine) × (c.in-Accepted.shape.columns ≡ columns_in s) = let a = accepts _ _ _ (sym (rw c.in-Accepted.is at c.examine-found.ensures)) in
+    (a.0, ap (λ (h : Shape). h.columns) (sym a.1)) in
+    (omega arith, omega (arith, found.1)) in
     let h = (file-fine _ found.0).walked.header in
     omega (arith, inside.0, inside.1, h.counts.columns.most, h.contents)
 
@@ -53,12 +53,12 @@ pub returns-else-shape-number : goal.returns-else-shape-number
 unfolding column_outcome read_outcome shape
 returns-else-shape-number c =
     let found : let s = c.args.file.now in
-        (file_fault s ≡ fine) × (c.in-Accepted.shape.columns ≡ columns_in s) = let a = accepts _ _ _ (sym (rw c.in-Accepted.is at c.examine-found.ensures)) in
-        (a.0, ap (λ (h : Shape). h.columns) (sym a.1)) in
+    (file_fault s ≡ fine) × (c.in-Accepted.shape.columns ≡ columns_in s) = let a = accepts _ _ _ (sym (rw c.in-Accepted.is at c.examine-found.ensures)) in
+    (a.0, ap (λ (h : Shape). h.columns) (sym a.1)) in
     let inside : let a = c.args in
-        (1 ≤ a.number) × (a.number ≤ columns_in a.file.now) = let found : let s = c.args.file.now in
-            (file_fault s ≡ fine) × (c.in-Accepted.shape.columns ≡ columns_in s) = let a = accepts _ _ _ (sym (rw c.in-Accepted.is at c.examine-found.ensures)) in
-            (a.0, ap (λ (h : Shape). h.columns) (sym a.1)) in
-        (omega arith, omega (arith, found.1)) in
+    (1 ≤ a.number) × (a.number ≤ columns_in a.file.now) = let found : let s = c.args.file.now in
+    (file_fault s ≡ fine) × (c.in-Accepted.shape.columns ≡ columns_in s) = let a = accepts _ _ _ (sym (rw c.in-Accepted.is at c.examine-found.ensures)) in
+    (a.0, ap (λ (h : Shape). h.columns) (sym a.1)) in
+    (omega arith, omega (arith, found.1)) in
     let i = inside in
     ap (λ e. column_outcome (At e)) c.entry_at.ensures ∙ unless-fine _ (fault-none _ _ found.0 i.0 i.1)

@@ -35,30 +35,30 @@ offset_bounds-table-j c = (let w = c.loop-j.invariant in omega (arith, w.walked.
 pub overflow_add-end : goal.overflow_add-end
 overflow_add-end c =
     let column : (d : Entry) →
-        ColumnAt c.args.file.now c.loop-j.j (get_or c.entries-table.result c.loop-j.j d) = λ d. let read : (d : Entry) →
-            get_or c.entries-table.result c.loop-j.j d ≡ entry_of (drop (bodies_at c.loop-j.j) c.args.file.now) = λ d. table_at _ _ _ c.loop-j.invariant.columns_is c.entries-table.ensures _ d c.loop-j-test.true in
-        testing_column _ _ _ _ c.loop-j.invariant c.loop-j-test.true _ (read d) in
+    ColumnAt c.args.file.now c.loop-j.j (get_or c.entries-table.result c.loop-j.j d) = λ d. let read : (d : Entry) →
+    get_or c.entries-table.result c.loop-j.j d ≡ entry_of (drop (bodies_at c.loop-j.j) c.args.file.now) = λ d. table_at _ _ _ c.loop-j.invariant.columns_is c.entries-table.ensures _ d c.loop-j-test.true in
+    testing_column _ _ _ _ c.loop-j.invariant c.loop-j-test.true _ (read d) in
     omega (arith, (column (entry_of [])).inside)
 
 pub slice_bounds-is_rising-end : goal.slice_bounds-is_rising-end
 slice_bounds-is_rising-end c =
     let column : (d : Entry) →
-        ColumnAt c.args.file.now c.loop-j.j (get_or c.entries-table.result c.loop-j.j d) = λ d. let read : (d : Entry) →
-            get_or c.entries-table.result c.loop-j.j d ≡ entry_of (drop (bodies_at c.loop-j.j) c.args.file.now) = λ d. table_at _ _ _ c.loop-j.invariant.columns_is c.entries-table.ensures _ d c.loop-j-test.true in
-        testing_column _ _ _ _ c.loop-j.invariant c.loop-j-test.true _ (read d) in
+    ColumnAt c.args.file.now c.loop-j.j (get_or c.entries-table.result c.loop-j.j d) = λ d. let read : (d : Entry) →
+    get_or c.entries-table.result c.loop-j.j d ≡ entry_of (drop (bodies_at c.loop-j.j) c.args.file.now) = λ d. table_at _ _ _ c.loop-j.invariant.columns_is c.entries-table.ensures _ d c.loop-j-test.true in
+    testing_column _ _ _ _ c.loop-j.invariant c.loop-j-test.true _ (read d) in
     omega (arith, (column (entry_of [])).inside)
 
 pub returns-then-not-is_rising : goal.returns-then-not-is_rising
 unfolding fault_of
 returns-then-not-is_rising c =
     let read : (d : Entry) →
-        get_or c.entries-table.result c.loop-j.j d ≡ entry_of (drop (bodies_at c.loop-j.j) c.args.file.now) = λ d. table_at _ _ _ c.loop-j.invariant.columns_is c.entries-table.ensures _ d c.loop-j-test.true in
+    get_or c.entries-table.result c.loop-j.j d ≡ entry_of (drop (bodies_at c.loop-j.j) c.args.file.now) = λ d. table_at _ _ _ c.loop-j.invariant.columns_is c.entries-table.ensures _ d c.loop-j-test.true in
     testing_stop _ _ _ _ c.loop-j.invariant c.loop-j-test.true _ (read _) _ c.is_rising.ensures (c.if-not-is_rising.true)
 
 pub loop-j-preserved : goal.loop-j-preserved
 loop-j-preserved c =
     let read : (d : Entry) →
-        get_or c.entries-table.result c.loop-j.j d ≡ entry_of (drop (bodies_at c.loop-j.j) c.args.file.now) = λ d. table_at _ _ _ c.loop-j.invariant.columns_is c.entries-table.ensures _ d c.loop-j-test.true in
+    get_or c.entries-table.result c.loop-j.j d ≡ entry_of (drop (bodies_at c.loop-j.j) c.args.file.now) = λ d. table_at _ _ _ c.loop-j.invariant.columns_is c.entries-table.ensures _ d c.loop-j-test.true in
     testing_next _ _ _ _ c.loop-j.invariant c.loop-j-test.true _ (read _) _ c.is_rising.ensures (c.if-not-is_rising.false)
 
 pub returns : goal.returns

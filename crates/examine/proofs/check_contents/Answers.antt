@@ -42,36 +42,36 @@ pub returns-in-Failed : goal.returns-in-Failed
 unfolding contents_outcome
 returns-in-Failed c =
     let read : (d : Entry) →
-        get_or c.entries-table.result c.loop-j.j d ≡ entry_of (drop (bodies_at c.loop-j.j) c.args.file.now) = λ d. table_at _ _ _ c.loop-j.invariant.columns_is c.entries-table.ensures _ d c.loop-j-test.true in
+    get_or c.entries-table.result c.loop-j.j d ≡ entry_of (drop (bodies_at c.loop-j.j) c.args.file.now) = λ d. table_at _ _ _ c.loop-j.invariant.columns_is c.entries-table.ensures _ d c.loop-j-test.true in
     walking_stop _ _ _ _ _ _ c.loop-j.invariant c.loop-j-test.true _ (read _) _
     (failed c.check_entry-tested.ensures _ c.in-Failed.is)
 
 pub overflow_add-total : goal.overflow_add-total
 overflow_add-total c =
     let next : Walking c.args.file.now
-        c.edition_in-edition.result
-        c.row_count-rows.result
-        c.column_count-columns.result
-        (c.loop-j.total
-        + (get_or c.entries-table.result c.loop-j.j (entry_of [])).size)
-        (c.loop-j.j + 1) = let read : (d : Entry) →
-            get_or c.entries-table.result c.loop-j.j d ≡ entry_of (drop (bodies_at c.loop-j.j) c.args.file.now) = λ d. table_at _ _ _ c.loop-j.invariant.columns_is c.entries-table.ensures _ d c.loop-j-test.true in
-        walking_next _ _ _ _ _ _ c.loop-j.invariant c.loop-j-test.true _ (read _)
-        (passed c.check_entry-tested.ensures c.in_default.is) in
+    c.edition_in-edition.result
+    c.row_count-rows.result
+    c.column_count-columns.result
+    (c.loop-j.total
+    + (get_or c.entries-table.result c.loop-j.j (entry_of [])).size)
+    (c.loop-j.j + 1) = let read : (d : Entry) →
+    get_or c.entries-table.result c.loop-j.j d ≡ entry_of (drop (bodies_at c.loop-j.j) c.args.file.now) = λ d. table_at _ _ _ c.loop-j.invariant.columns_is c.entries-table.ensures _ d c.loop-j-test.true in
+    walking_next _ _ _ _ _ _ c.loop-j.invariant c.loop-j-test.true _ (read _)
+    (passed c.check_entry-tested.ensures c.in_default.is) in
     omega (arith, next.small)
 
 pub loop-j-preserved : goal.loop-j-preserved
 loop-j-preserved c =
     let next : Walking c.args.file.now
-        c.edition_in-edition.result
-        c.row_count-rows.result
-        c.column_count-columns.result
-        (c.loop-j.total
-        + (get_or c.entries-table.result c.loop-j.j (entry_of [])).size)
-        (c.loop-j.j + 1) = let read : (d : Entry) →
-            get_or c.entries-table.result c.loop-j.j d ≡ entry_of (drop (bodies_at c.loop-j.j) c.args.file.now) = λ d. table_at _ _ _ c.loop-j.invariant.columns_is c.entries-table.ensures _ d c.loop-j-test.true in
-        walking_next _ _ _ _ _ _ c.loop-j.invariant c.loop-j-test.true _ (read _)
-        (passed c.check_entry-tested.ensures c.in_default.is) in
+    c.edition_in-edition.result
+    c.row_count-rows.result
+    c.column_count-columns.result
+    (c.loop-j.total
+    + (get_or c.entries-table.result c.loop-j.j (entry_of [])).size)
+    (c.loop-j.j + 1) = let read : (d : Entry) →
+    get_or c.entries-table.result c.loop-j.j d ≡ entry_of (drop (bodies_at c.loop-j.j) c.args.file.now) = λ d. table_at _ _ _ c.loop-j.invariant.columns_is c.entries-table.ensures _ d c.loop-j-test.true in
+    walking_next _ _ _ _ _ _ c.loop-j.invariant c.loop-j-test.true _ (read _)
+    (passed c.check_entry-tested.ensures c.in_default.is) in
     next
 
 pub returns : goal.returns

@@ -26,5 +26,8 @@ returns-in-StoppedWith c = let k = c.put_found-in-StoppedWith in record { upper_
 pub returns-in-Refused : goal.returns-in-Refused
 unfolding words_of search_outcome fields
 returns-in-Refused c =
-    let k = c.put_number-in-Refused in record { upper_bound = omega (arith, k.ensures.upper_bound); put = rw (c.in-Refused.is, sym c.number.ensures)
-          (put_then _ _ _ _ _ _ _ _ (put-run _ _ _ refusal c.put-in-Refused.ensures) (put_last _ _ _ _ _ k.ensures.put)) }
+    let k = c.put_number-in-Refused in record {
+      upper_bound = omega (arith, k.ensures.upper_bound);
+      put = rw (c.in-Refused.is, sym c.number.ensures)
+          (put_then _ _ _ _ _ _ _ _ (put-run _ _ _ refusal c.put-in-Refused.ensures) (put_last _ _ _ _ _ k.ensures.put));
+    }

@@ -10,37 +10,37 @@ use Rattle.lists.proofs.read_matrix.Goals as goal
 pub slice_bounds-fill_matrix-end : goal.slice_bounds-fill_matrix-end
 slice_bounds-fill_matrix-end c =
     let listed : Listed c.args.file.now c.in-Accepted.shape
-        c.read_lists-found.new.costs c.read_lists-found.new.lengths c.read_lists-found.new.numbers = file-listed _ _ c.read_lists-found.ensures.result_value _ c.in-Accepted.is _ _ _ _ _ _ c.read_lists-found.ensures.costs_after c.read_lists-found.ensures.lengths_after c.read_lists-found.ensures.numbers_after in
+    c.read_lists-found.new.costs c.read_lists-found.new.lengths c.read_lists-found.new.numbers = file-listed _ _ c.read_lists-found.ensures.result_value _ c.in-Accepted.is _ _ _ _ _ _ c.read_lists-found.ensures.costs_after c.read_lists-found.ensures.lengths_after c.read_lists-found.ensures.numbers_after in
     omega (arith, listed.columns)
 
 pub slice_bounds-fill_matrix-end-in-Accepted : goal.slice_bounds-fill_matrix-end-in-Accepted
 slice_bounds-fill_matrix-end-in-Accepted c =
     let listed : Listed c.args.file.now c.in-Accepted.shape
-        c.read_lists-found.new.costs c.read_lists-found.new.lengths c.read_lists-found.new.numbers = file-listed _ _ c.read_lists-found.ensures.result_value _ c.in-Accepted.is _ _ _ _ _ _ c.read_lists-found.ensures.costs_after c.read_lists-found.ensures.lengths_after c.read_lists-found.ensures.numbers_after in
+    c.read_lists-found.new.costs c.read_lists-found.new.lengths c.read_lists-found.new.numbers = file-listed _ _ c.read_lists-found.ensures.result_value _ c.in-Accepted.is _ _ _ _ _ _ c.read_lists-found.ensures.costs_after c.read_lists-found.ensures.lengths_after c.read_lists-found.ensures.numbers_after in
     omega (arith, listed.entries)
 
 pub fill_matrix-requires : goal.fill_matrix-requires
 fill_matrix-requires c =
     let listed : Listed c.args.file.now c.in-Accepted.shape
-        c.read_lists-found.new.costs c.read_lists-found.new.lengths c.read_lists-found.new.numbers = file-listed _ _ c.read_lists-found.ensures.result_value _ c.in-Accepted.is _ _ _ _ _ _ c.read_lists-found.ensures.costs_after c.read_lists-found.ensures.lengths_after c.read_lists-found.ensures.numbers_after in
+    c.read_lists-found.new.costs c.read_lists-found.new.lengths c.read_lists-found.new.numbers = file-listed _ _ c.read_lists-found.ensures.result_value _ c.in-Accepted.is _ _ _ _ _ _ c.read_lists-found.ensures.costs_after c.read_lists-found.ensures.lengths_after c.read_lists-found.ensures.numbers_after in
     parts_statable _ _ _ _ _ listed
 
 pub slice_bounds-fill_costs-end : goal.slice_bounds-fill_costs-end
 slice_bounds-fill_costs-end c =
     let listed : Listed c.args.file.now c.in-Accepted.shape
-        c.read_lists-found.new.costs c.read_lists-found.new.lengths c.read_lists-found.new.numbers = file-listed _ _ c.read_lists-found.ensures.result_value _ c.in-Accepted.is _ _ _ _ _ _ c.read_lists-found.ensures.costs_after c.read_lists-found.ensures.lengths_after c.read_lists-found.ensures.numbers_after in
+    c.read_lists-found.new.costs c.read_lists-found.new.lengths c.read_lists-found.new.numbers = file-listed _ _ c.read_lists-found.ensures.result_value _ c.in-Accepted.is _ _ _ _ _ _ c.read_lists-found.ensures.costs_after c.read_lists-found.ensures.lengths_after c.read_lists-found.ensures.numbers_after in
     omega (arith, listed.columns)
 
 pub slice_bounds-fill_costs-end-in-Accepted : goal.slice_bounds-fill_costs-end-in-Accepted
 slice_bounds-fill_costs-end-in-Accepted c =
     let listed : Listed c.args.file.now c.in-Accepted.shape
-        c.read_lists-found.new.costs c.read_lists-found.new.lengths c.read_lists-found.new.numbers = file-listed _ _ c.read_lists-found.ensures.result_value _ c.in-Accepted.is _ _ _ _ _ _ c.read_lists-found.ensures.costs_after c.read_lists-found.ensures.lengths_after c.read_lists-found.ensures.numbers_after in
+    c.read_lists-found.new.costs c.read_lists-found.new.lengths c.read_lists-found.new.numbers = file-listed _ _ c.read_lists-found.ensures.result_value _ c.in-Accepted.is _ _ _ _ _ _ c.read_lists-found.ensures.costs_after c.read_lists-found.ensures.lengths_after c.read_lists-found.ensures.numbers_after in
     omega (arith, listed.columns)
 
 pub fill_costs-requires : goal.fill_costs-requires
 fill_costs-requires c =
     let listed : Listed c.args.file.now c.in-Accepted.shape
-        c.read_lists-found.new.costs c.read_lists-found.new.lengths c.read_lists-found.new.numbers = file-listed _ _ c.read_lists-found.ensures.result_value _ c.in-Accepted.is _ _ _ _ _ _ c.read_lists-found.ensures.costs_after c.read_lists-found.ensures.lengths_after c.read_lists-found.ensures.numbers_after in
+    c.read_lists-found.new.costs c.read_lists-found.new.lengths c.read_lists-found.new.numbers = file-listed _ _ c.read_lists-found.ensures.result_value _ c.in-Accepted.is _ _ _ _ _ _ c.read_lists-found.ensures.costs_after c.read_lists-found.ensures.lengths_after c.read_lists-found.ensures.numbers_after in
     parts-priced _ _ _ _ _ listed
 
 pub returns-in-Refused : goal.returns-in-Refused
@@ -51,6 +51,6 @@ pub returns-in-Accepted : goal.returns-in-Accepted
 unfolding read_outcome filled
 returns-in-Accepted c =
     let listed : Listed c.args.file.now c.in-Accepted.shape
-        c.read_lists-found.new.costs c.read_lists-found.new.lengths c.read_lists-found.new.numbers = file-listed _ _ c.read_lists-found.ensures.result_value _ c.in-Accepted.is _ _ _ _ _ _ c.read_lists-found.ensures.costs_after c.read_lists-found.ensures.lengths_after c.read_lists-found.ensures.numbers_after in
+    c.read_lists-found.new.costs c.read_lists-found.new.lengths c.read_lists-found.new.numbers = file-listed _ _ c.read_lists-found.ensures.result_value _ c.in-Accepted.is _ _ _ _ _ _ c.read_lists-found.ensures.costs_after c.read_lists-found.ensures.lengths_after c.read_lists-found.ensures.numbers_after in
     let is = c.in-Accepted.is in
     let raised = parts-raised _ _ _ _ _ listed _ c.fill_costs.ensures in record { result_value = rw is at c.read_lists-found.ensures.result_value; costs_after = rw c.requires raised; matrix_unchanged = λ why q. absurd (refuses_only _ _ (sym q)); loaded = λ found q. loaded_as _ _ _ _ _ listed _ _ c.fill_matrix.ensures.matrix_len raised c.fill_matrix.ensures.holds found q }

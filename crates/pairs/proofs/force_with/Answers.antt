@@ -51,37 +51,37 @@ loop-s-preserved-else-not-passed c =
 pub offset_bounds-s-j : goal.offset_bounds-s-j
 offset_bounds-s-j c =
     let takes : let a = c.args in
-        Takes a.goal a.matrix.now c.loop-s.s c.in-Take.j = settling_takes _ _ _ _ _ c.loop-s.invariant _ c.open_rows_ask-found.ensures _ c.in-Take.is in
+    Takes a.goal a.matrix.now c.loop-s.s c.in-Take.j = settling_takes _ _ _ _ _ c.loop-s.invariant _ c.open_rows_ask-found.ensures _ c.in-Take.is in
     omega (arith, takes_low _ _ _ _ takes)
 
 pub bounds-s-j : goal.bounds-s-j
 bounds-s-j c =
     let takes : let a = c.args in
-        Takes a.goal a.matrix.now c.loop-s.s c.in-Take.j = settling_takes _ _ _ _ _ c.loop-s.invariant _ c.open_rows_ask-found.ensures _ c.in-Take.is in
+    Takes a.goal a.matrix.now c.loop-s.s c.in-Take.j = settling_takes _ _ _ _ _ c.loop-s.invariant _ c.open_rows_ask-found.ensures _ c.in-Take.is in
     takes_low _ _ _ _ takes
 
 pub join-bound-requires : goal.join-bound-requires
 join-bound-requires c =
     let takes : let a = c.args in
-        Takes a.goal a.matrix.now c.loop-s.s c.in-Take.j = settling_takes _ _ _ _ _ c.loop-s.invariant _ c.open_rows_ask-found.ensures _ c.in-Take.is in
+    Takes a.goal a.matrix.now c.loop-s.s c.in-Take.j = settling_takes _ _ _ _ _ c.loop-s.invariant _ c.open_rows_ask-found.ensures _ c.in-Take.is in
     takes-room _ _ _ _ takes
 
 pub take-s-requires : goal.take-s-requires
 take-s-requires c =
     let takes : let a = c.args in
-        Takes a.goal a.matrix.now c.loop-s.s c.in-Take.j = settling_takes _ _ _ _ _ c.loop-s.invariant _ c.open_rows_ask-found.ensures _ c.in-Take.is in
+    Takes a.goal a.matrix.now c.loop-s.s c.in-Take.j = settling_takes _ _ _ _ _ c.loop-s.invariant _ c.open_rows_ask-found.ensures _ c.in-Take.is in
     takes-column _ _ _ _ takes
 
 pub loop-s-smaller : goal.loop-s-smaller
 loop-s-smaller c =
     let takes : let a = c.args in
-        Takes a.goal a.matrix.now c.loop-s.s c.in-Take.j = settling_takes _ _ _ _ _ c.loop-s.invariant _ c.open_rows_ask-found.ensures _ c.in-Take.is in
+    Takes a.goal a.matrix.now c.loop-s.s c.in-Take.j = settling_takes _ _ _ _ _ c.loop-s.invariant _ c.open_rows_ask-found.ensures _ c.in-Take.is in
     settling_less _ _ _ _ _ c.loop-s.invariant _ c.open_rows_ask-found.ensures _ c.in-Take.is _
     (takes-is _ _ _ _ takes _ c.join-bound.ensures _ c.take-s.ensures)
 
 pub loop-s-preserved : goal.loop-s-preserved
 loop-s-preserved c =
     let takes : let a = c.args in
-        Takes a.goal a.matrix.now c.loop-s.s c.in-Take.j = settling_takes _ _ _ _ _ c.loop-s.invariant _ c.open_rows_ask-found.ensures _ c.in-Take.is in
+    Takes a.goal a.matrix.now c.loop-s.s c.in-Take.j = settling_takes _ _ _ _ _ c.loop-s.invariant _ c.open_rows_ask-found.ensures _ c.in-Take.is in
     settling_taken _ _ _ _ _ c.loop-s.invariant _ c.open_rows_ask-found.ensures _ c.in-Take.is _
     (takes-is _ _ _ _ takes _ c.join-bound.ensures _ c.take-s.ensures)

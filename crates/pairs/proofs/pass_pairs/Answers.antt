@@ -18,56 +18,56 @@ overflow_add-k c = omega (arith, c.loop-k.invariant.low)
 pub overflow_cast-first : goal.overflow_cast-first
 overflow_cast-first c =
     let range : InRange c.args.pairs.now c.loop-k.k = let ns = c.args.pairs.now in
-        in_range ns c.loop-k.k (numbers-low _ ns c.requires.fits c.requires.some.kept.small.fits.wide) c.loop-k-test.true in
+    in_range ns c.loop-k.k (numbers-low _ ns c.requires.fits c.requires.some.kept.small.fits.wide) c.loop-k-test.true in
     omega (arith, range.0.1)
 
 pub overflow_sub-first : goal.overflow_sub-first
 overflow_sub-first c =
     let range : InRange c.args.pairs.now c.loop-k.k = let ns = c.args.pairs.now in
-        in_range ns c.loop-k.k (numbers-low _ ns c.requires.fits c.requires.some.kept.small.fits.wide) c.loop-k-test.true in
+    in_range ns c.loop-k.k (numbers-low _ ns c.requires.fits c.requires.some.kept.small.fits.wide) c.loop-k-test.true in
     range.0.0
 
 pub overflow_cast-second : goal.overflow_cast-second
 overflow_cast-second c =
     let range : InRange c.args.pairs.now c.loop-k.k = let ns = c.args.pairs.now in
-        in_range ns c.loop-k.k (numbers-low _ ns c.requires.fits c.requires.some.kept.small.fits.wide) c.loop-k-test.true in
+    in_range ns c.loop-k.k (numbers-low _ ns c.requires.fits c.requires.some.kept.small.fits.wide) c.loop-k-test.true in
     omega (arith, range.1.1)
 
 pub overflow_sub-second : goal.overflow_sub-second
 overflow_sub-second c =
     let range : InRange c.args.pairs.now c.loop-k.k = let ns = c.args.pairs.now in
-        in_range ns c.loop-k.k (numbers-low _ ns c.requires.fits c.requires.some.kept.small.fits.wide) c.loop-k-test.true in
+    in_range ns c.loop-k.k (numbers-low _ ns c.requires.fits c.requires.some.kept.small.fits.wide) c.loop-k-test.true in
     range.1.0
 
 pub pair_asks-asked-requires : goal.pair_asks-asked-requires
 pair_asks-asked-requires c =
     let range : InRange c.args.pairs.now c.loop-k.k = let ns = c.args.pairs.now in
-        in_range ns c.loop-k.k (numbers-low _ ns c.requires.fits c.requires.some.kept.small.fits.wide) c.loop-k-test.true in
+    in_range ns c.loop-k.k (numbers-low _ ns c.requires.fits c.requires.some.kept.small.fits.wide) c.loop-k-test.true in
     let r = range in
     (omega arith, omega arith)
 
 pub offset_bounds-s-second : goal.offset_bounds-s-second
 offset_bounds-s-second c =
     let takes : let a = c.args in
-        Takes a.goal a.matrix.now c.loop-k.s (get_or a.pairs.now (c.loop-k.k + 1) 0 - 1) = passing_takes _ _ _ _ _ _ c.loop-k.invariant c.loop-k-test.true _ c.pair_asks-asked.ensures c.requires.fits c.in-TakeSecond.is in
+    Takes a.goal a.matrix.now c.loop-k.s (get_or a.pairs.now (c.loop-k.k + 1) 0 - 1) = passing_takes _ _ _ _ _ _ c.loop-k.invariant c.loop-k-test.true _ c.pair_asks-asked.ensures c.requires.fits c.in-TakeSecond.is in
     omega (arith, takes_low _ _ _ _ takes)
 
 pub bounds-s-second : goal.bounds-s-second
 bounds-s-second c =
     let takes : let a = c.args in
-        Takes a.goal a.matrix.now c.loop-k.s (get_or a.pairs.now (c.loop-k.k + 1) 0 - 1) = passing_takes _ _ _ _ _ _ c.loop-k.invariant c.loop-k-test.true _ c.pair_asks-asked.ensures c.requires.fits c.in-TakeSecond.is in
+    Takes a.goal a.matrix.now c.loop-k.s (get_or a.pairs.now (c.loop-k.k + 1) 0 - 1) = passing_takes _ _ _ _ _ _ c.loop-k.invariant c.loop-k-test.true _ c.pair_asks-asked.ensures c.requires.fits c.in-TakeSecond.is in
     takes_low _ _ _ _ takes
 
 pub join-bound-requires : goal.join-bound-requires
 join-bound-requires c =
     let takes : let a = c.args in
-        Takes a.goal a.matrix.now c.loop-k.s (get_or a.pairs.now (c.loop-k.k + 1) 0 - 1) = passing_takes _ _ _ _ _ _ c.loop-k.invariant c.loop-k-test.true _ c.pair_asks-asked.ensures c.requires.fits c.in-TakeSecond.is in
+    Takes a.goal a.matrix.now c.loop-k.s (get_or a.pairs.now (c.loop-k.k + 1) 0 - 1) = passing_takes _ _ _ _ _ _ c.loop-k.invariant c.loop-k-test.true _ c.pair_asks-asked.ensures c.requires.fits c.in-TakeSecond.is in
     takes-room _ _ _ _ takes
 
 pub take-s-requires : goal.take-s-requires
 take-s-requires c =
     let takes : let a = c.args in
-        Takes a.goal a.matrix.now c.loop-k.s (get_or a.pairs.now (c.loop-k.k + 1) 0 - 1) = passing_takes _ _ _ _ _ _ c.loop-k.invariant c.loop-k-test.true _ c.pair_asks-asked.ensures c.requires.fits c.in-TakeSecond.is in
+    Takes a.goal a.matrix.now c.loop-k.s (get_or a.pairs.now (c.loop-k.k + 1) 0 - 1) = passing_takes _ _ _ _ _ _ c.loop-k.invariant c.loop-k-test.true _ c.pair_asks-asked.ensures c.requires.fits c.in-TakeSecond.is in
     takes-column _ _ _ _ takes
 
 pub loop-k-smaller-in-TakeSecond : goal.loop-k-smaller-in-TakeSecond
@@ -76,7 +76,7 @@ loop-k-smaller-in-TakeSecond c = omega (arith, c.loop-k-test.true)
 pub loop-k-preserved-in-TakeSecond : goal.loop-k-preserved-in-TakeSecond
 loop-k-preserved-in-TakeSecond c =
     let takes : let a = c.args in
-        Takes a.goal a.matrix.now c.loop-k.s (get_or a.pairs.now (c.loop-k.k + 1) 0 - 1) = passing_takes _ _ _ _ _ _ c.loop-k.invariant c.loop-k-test.true _ c.pair_asks-asked.ensures c.requires.fits c.in-TakeSecond.is in
+    Takes a.goal a.matrix.now c.loop-k.s (get_or a.pairs.now (c.loop-k.k + 1) 0 - 1) = passing_takes _ _ _ _ _ _ c.loop-k.invariant c.loop-k-test.true _ c.pair_asks-asked.ensures c.requires.fits c.in-TakeSecond.is in
     passing_taken _ _ _ _ _ _ c.loop-k.invariant c.loop-k-test.true _ c.pair_asks-asked.ensures c.requires.fits
     c.in-TakeSecond.is _ (takes-is _ _ _ _ takes _ c.join-bound.ensures _ c.take-s.ensures)
 
@@ -86,7 +86,7 @@ returns-in-Dead c = passing_dead _ _ _ _ _ _ c.loop-k.invariant c.loop-k-test.tr
 pub leave-s-requires : goal.leave-s-requires
 leave-s-requires c =
     let range : InRange c.args.pairs.now c.loop-k.k = let ns = c.args.pairs.now in
-        in_range ns c.loop-k.k (numbers-low _ ns c.requires.fits c.requires.some.kept.small.fits.wide) c.loop-k-test.true in
+    in_range ns c.loop-k.k (numbers-low _ ns c.requires.fits c.requires.some.kept.small.fits.wide) c.loop-k-test.true in
     let r = range.0 in
     omega arith
 

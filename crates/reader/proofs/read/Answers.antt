@@ -13,18 +13,18 @@ pub fill_columns-requires : goal.fill_columns-requires
 unfolding read_outcome
 fill_columns-requires c =
     let space : let a = c.args in
-        Roomy a.file.now (length a.costs.now) (length a.lengths.now) (length a.rows.now) = let found : let s = c.args.file.now in
-            accepted c.in-Accepted.shape ≡ unless (file_fault s) (shape s) = rw c.in-Accepted.is at c.examine-found.ensures in
-        roomy _ _ _ _ _ found (passed c.check_rooms-room.ensures c.in-Passed.is) in
+    Roomy a.file.now (length a.costs.now) (length a.lengths.now) (length a.rows.now) = let found : let s = c.args.file.now in
+    accepted c.in-Accepted.shape ≡ unless (file_fault s) (shape s) = rw c.in-Accepted.is at c.examine-found.ensures in
+    roomy _ _ _ _ _ found (passed c.check_rooms-room.ensures c.in-Passed.is) in
     let r = space in record { file_value = r.header; file_in_bounds = r.costs; file_in_bounds_2 = r.lengths }
 
 pub fill_rows-requires : goal.fill_rows-requires
 unfolding read_outcome
 fill_rows-requires c =
     let space : let a = c.args in
-        Roomy a.file.now (length a.costs.now) (length a.lengths.now) (length a.rows.now) = let found : let s = c.args.file.now in
-            accepted c.in-Accepted.shape ≡ unless (file_fault s) (shape s) = rw c.in-Accepted.is at c.examine-found.ensures in
-        roomy _ _ _ _ _ found (passed c.check_rooms-room.ensures c.in-Passed.is) in
+    Roomy a.file.now (length a.costs.now) (length a.lengths.now) (length a.rows.now) = let found : let s = c.args.file.now in
+    accepted c.in-Accepted.shape ≡ unless (file_fault s) (shape s) = rw c.in-Accepted.is at c.examine-found.ensures in
+    roomy _ _ _ _ _ found (passed c.check_rooms-room.ensures c.in-Passed.is) in
     let r = space in record { file_value = r.header; file_in_bounds = r.rows }
 
 pub returns-in-Refused : goal.returns-in-Refused
@@ -35,10 +35,10 @@ pub returns-in-Failed : goal.returns-in-Failed
 unfolding read_outcome filled
 returns-in-Failed c =
     let found : let s = c.args.file.now in
-        accepted c.in-Accepted.shape ≡ unless (file_fault s) (shape s) = rw c.in-Accepted.is at c.examine-found.ensures in record { result_value = reading-short _ _ _ _ _ found _ (failed c.check_rooms-room.ensures _ c.in-Failed.is); costs_after = refl; lengths_after = refl; rows_after = refl }
+    accepted c.in-Accepted.shape ≡ unless (file_fault s) (shape s) = rw c.in-Accepted.is at c.examine-found.ensures in record { result_value = reading-short _ _ _ _ _ found _ (failed c.check_rooms-room.ensures _ c.in-Failed.is); costs_after = refl; lengths_after = refl; rows_after = refl }
 
 pub returns-in-Passed : goal.returns-in-Passed
 unfolding read_outcome filled
 returns-in-Passed c =
     let found : let s = c.args.file.now in
-        accepted c.in-Accepted.shape ≡ unless (file_fault s) (shape s) = rw c.in-Accepted.is at c.examine-found.ensures in record { result_value = reading-done _ _ _ _ _ found (passed c.check_rooms-room.ensures c.in-Passed.is); costs_after = c.fill_columns.ensures.costs_after; lengths_after = c.fill_columns.ensures.lengths_after; rows_after = c.fill_rows.ensures }
+    accepted c.in-Accepted.shape ≡ unless (file_fault s) (shape s) = rw c.in-Accepted.is at c.examine-found.ensures in record { result_value = reading-done _ _ _ _ _ found (passed c.check_rooms-room.ensures c.in-Passed.is); costs_after = c.fill_columns.ensures.costs_after; lengths_after = c.fill_columns.ensures.lengths_after; rows_after = c.fill_rows.ensures }

@@ -5,7 +5,7 @@ use lib.ListN.{length}
 use Rattle.reduce_files.proofs.grow.Given as goal
 
 abbrev pub invariant-loop-j : goal.invariant-loop-j
-invariant-loop-j l = 
+invariant-loop-j l =
     (length l.costs ≡ length l.initial.costs) × (length l.lengths ≡ length l.initial.lengths) × (length l.numbers ≡ length l.initial.numbers) × (l.first ≤ 64) × (l.end ≤ length l.initial.numbers)
     × (l.j ≤ length l.initial.costs)
 

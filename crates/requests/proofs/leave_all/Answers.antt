@@ -14,19 +14,19 @@ overflow_cast-j c = omega (arith, c.type_inv.numbers c.loop-k.k)
 pub overflow_sub-j : goal.overflow_sub-j
 overflow_sub-j c =
     let range : let n = get_or c.args.numbers.now c.loop-k.k 0 in
-        (1 ≤ n) × (n ≤ 256) = c.requires _ c.loop-k-test.true in
+    (1 ≤ n) × (n ≤ 256) = c.requires _ c.loop-k-test.true in
     range.0
 
 pub bounds-s-j : goal.bounds-s-j
 bounds-s-j c =
     let range : let n = get_or c.args.numbers.now c.loop-k.k 0 in
-        (1 ≤ n) × (n ≤ 256) = c.requires _ c.loop-k-test.true in
+    (1 ≤ n) × (n ≤ 256) = c.requires _ c.loop-k-test.true in
     omega (arith, range.0, range.1)
 
 pub leave-s-requires : goal.leave-s-requires
 leave-s-requires c =
     let range : let n = get_or c.args.numbers.now c.loop-k.k 0 in
-        (1 ≤ n) × (n ≤ 256) = c.requires _ c.loop-k-test.true in
+    (1 ≤ n) × (n ≤ 256) = c.requires _ c.loop-k-test.true in
     omega (arith, range.0, range.1)
 
 pub loop-k-smaller-then-s-j-eq1 : goal.loop-k-smaller-then-s-j-eq1

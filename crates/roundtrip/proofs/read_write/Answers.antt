@@ -14,36 +14,36 @@ pub overflow_cast-shape : goal.overflow_cast-shape
 unfolding read_outcome
 overflow_cast-shape c =
     let fits : let a = c.args in
-        Found c.in-Accepted.shape (length a.costs.now) (length a.lengths.now) (length a.numbers.now) = let found : let a = c.args in
-            accepted c.in-Accepted.shape ≡ reading a.file.now (length a.costs.now) (length a.lengths.now) (length a.numbers.now) = rw c.in-Accepted.is at c.read-found.ensures.result_value in
-        found-fits _ _ _ _ _ found in
+    Found c.in-Accepted.shape (length a.costs.now) (length a.lengths.now) (length a.numbers.now) = let found : let a = c.args in
+    accepted c.in-Accepted.shape ≡ reading a.file.now (length a.costs.now) (length a.lengths.now) (length a.numbers.now) = rw c.in-Accepted.is at c.read-found.ensures.result_value in
+    found-fits _ _ _ _ _ found in
     omega (arith, fits.rows)
 
 pub slice_bounds-write_by-end : goal.slice_bounds-write_by-end
 unfolding read_outcome
 slice_bounds-write_by-end c =
     let fits : let a = c.args in
-        Found c.in-Accepted.shape (length a.costs.now) (length a.lengths.now) (length a.numbers.now) = let found : let a = c.args in
-            accepted c.in-Accepted.shape ≡ reading a.file.now (length a.costs.now) (length a.lengths.now) (length a.numbers.now) = rw c.in-Accepted.is at c.read-found.ensures.result_value in
-        found-fits _ _ _ _ _ found in
+    Found c.in-Accepted.shape (length a.costs.now) (length a.lengths.now) (length a.numbers.now) = let found : let a = c.args in
+    accepted c.in-Accepted.shape ≡ reading a.file.now (length a.costs.now) (length a.lengths.now) (length a.numbers.now) = rw c.in-Accepted.is at c.read-found.ensures.result_value in
+    found-fits _ _ _ _ _ found in
     omega (arith, fits.costs)
 
 pub slice_bounds-write_by-end-in-Accepted : goal.slice_bounds-write_by-end-in-Accepted
 unfolding read_outcome
 slice_bounds-write_by-end-in-Accepted c =
     let fits : let a = c.args in
-        Found c.in-Accepted.shape (length a.costs.now) (length a.lengths.now) (length a.numbers.now) = let found : let a = c.args in
-            accepted c.in-Accepted.shape ≡ reading a.file.now (length a.costs.now) (length a.lengths.now) (length a.numbers.now) = rw c.in-Accepted.is at c.read-found.ensures.result_value in
-        found-fits _ _ _ _ _ found in
+    Found c.in-Accepted.shape (length a.costs.now) (length a.lengths.now) (length a.numbers.now) = let found : let a = c.args in
+    accepted c.in-Accepted.shape ≡ reading a.file.now (length a.costs.now) (length a.lengths.now) (length a.numbers.now) = rw c.in-Accepted.is at c.read-found.ensures.result_value in
+    found-fits _ _ _ _ _ found in
     omega (arith, fits.lengths)
 
 pub slice_bounds-write_by-end-in-Accepted-2 : goal.slice_bounds-write_by-end-in-Accepted-2
 unfolding read_outcome
 slice_bounds-write_by-end-in-Accepted-2 c =
     let fits : let a = c.args in
-        Found c.in-Accepted.shape (length a.costs.now) (length a.lengths.now) (length a.numbers.now) = let found : let a = c.args in
-            accepted c.in-Accepted.shape ≡ reading a.file.now (length a.costs.now) (length a.lengths.now) (length a.numbers.now) = rw c.in-Accepted.is at c.read-found.ensures.result_value in
-        found-fits _ _ _ _ _ found in
+    Found c.in-Accepted.shape (length a.costs.now) (length a.lengths.now) (length a.numbers.now) = let found : let a = c.args in
+    accepted c.in-Accepted.shape ≡ reading a.file.now (length a.costs.now) (length a.lengths.now) (length a.numbers.now) = rw c.in-Accepted.is at c.read-found.ensures.result_value in
+    found-fits _ _ _ _ _ found in
     omega (arith, fits.numbers)
 
 pub returns-in-Refused : goal.returns-in-Refused
@@ -54,7 +54,7 @@ pub returns-in-Accepted : goal.returns-in-Accepted
 unfolding read_outcome
 returns-in-Accepted c =
     let found : let a = c.args in
-        accepted c.in-Accepted.shape ≡ reading a.file.now (length a.costs.now) (length a.lengths.now) (length a.numbers.now) = rw c.in-Accepted.is at c.read-found.ensures.result_value in
+    accepted c.in-Accepted.shape ≡ reading a.file.now (length a.costs.now) (length a.lengths.now) (length a.numbers.now) = rw c.in-Accepted.is at c.read-found.ensures.result_value in
     let bytes : Bytes c.args.file.now = λ i. omega (arith, c.type_inv.file i) in
     let t = c.read-found.ensures.result_value in
     let costs = rw t at c.read-found.ensures.costs_after in

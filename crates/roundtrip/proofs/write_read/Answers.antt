@@ -14,7 +14,7 @@ pub slice_bounds-read-end : goal.slice_bounds-read-end
 unfolding write_outcome
 slice_bounds-read-end c =
     let written : let a = c.args in
-        accepted c.in-Written.size ≡ writing (lists a.edition a.rows a.costs.now a.lengths.now a.numbers.now) (length a.file.now) = rw c.in-Written.is at c.write_by-written.ensures.result_value in
+    accepted c.in-Written.size ≡ writing (lists a.edition a.rows a.costs.now a.lengths.now a.numbers.now) (length a.file.now) = rw c.in-Written.is at c.write_by-written.ensures.result_value in
     omega (arith, written-fits _ _ 0 0 0 _ written)
 
 pub returns-in-Refused : goal.returns-in-Refused
@@ -25,6 +25,6 @@ pub returns-in-Written : goal.returns-in-Written
 unfolding write_outcome
 returns-in-Written c =
     let written : let a = c.args in
-        accepted c.in-Written.size ≡ writing (lists a.edition a.rows a.costs.now a.lengths.now a.numbers.now) (length a.file.now) = rw c.in-Written.is at c.write_by-written.ensures.result_value in
+    accepted c.in-Written.size ≡ writing (lists a.edition a.rows a.costs.now a.lengths.now a.numbers.now) (length a.file.now) = rw c.in-Written.is at c.write_by-written.ensures.result_value in
     let file = rw c.write_by-written.ensures.result_value at c.write_by-written.ensures.out_after in
     let same = lists_read _ _ 0 0 0 _ written _ _ file in record { result_value = c.read.ensures.result_value ∙ outcome_read _ _ _ _ _ _ written _ _ file; costs_read_after = rw same at c.read.ensures.costs_after; lengths_read_after = rw same at c.read.ensures.lengths_after; numbers_read_after = rw same at c.read.ensures.rows_after; file_after = file }

@@ -15,97 +15,97 @@ use Rattle.search.proofs.search_for.Goals as goal
 pub slice_bounds-root_node-end : goal.slice_bounds-root_node-end
 slice_bounds-root_node-end c =
     let loaded : let a = c.args in
-        Loaded a.file.now c.in-Accepted.shape c.read_matrix-found.new.matrix c.read_matrix-found.new.costs = c.read_matrix-found.ensures.loaded _ c.in-Accepted.is in
+    Loaded a.file.now c.in-Accepted.shape c.read_matrix-found.new.matrix c.read_matrix-found.new.costs = c.read_matrix-found.ensures.loaded _ c.in-Accepted.is in
     sym loaded.long
 
 pub root_node-root-requires : goal.root_node-root-requires
 root_node-root-requires c =
     let loaded : let a = c.args in
-        Loaded a.file.now c.in-Accepted.shape c.read_matrix-found.new.matrix c.read_matrix-found.new.costs = c.read_matrix-found.ensures.loaded _ c.in-Accepted.is in
+    Loaded a.file.now c.in-Accepted.shape c.read_matrix-found.new.matrix c.read_matrix-found.new.costs = c.read_matrix-found.ensures.loaded _ c.in-Accepted.is in
     loaded.kept
 
 pub slice_bounds-begin-end : goal.slice_bounds-begin-end
 slice_bounds-begin-end c =
     let rooted : let a = c.args in
-        Rooted a.file.now a.limit (length a.plan.now) (asking a.agreed.now a.absent.now a.pairs.now) c.in-Accepted.shape
-        c.read_matrix-found.new.matrix c.root_node-root.result = let loaded : let a = c.args in
-            Loaded a.file.now c.in-Accepted.shape c.read_matrix-found.new.matrix c.read_matrix-found.new.costs = c.read_matrix-found.ensures.loaded _ c.in-Accepted.is in
-        record {
-          costs = _;
-          file = loaded;
-          fits = passed c.check_call_with-test.ensures c.in-Passed.is;
-          is = c.root_node-root.ensures;
-        } in
+    Rooted a.file.now a.limit (length a.plan.now) (asking a.agreed.now a.absent.now a.pairs.now) c.in-Accepted.shape
+    c.read_matrix-found.new.matrix c.root_node-root.result = let loaded : let a = c.args in
+    Loaded a.file.now c.in-Accepted.shape c.read_matrix-found.new.matrix c.read_matrix-found.new.costs = c.read_matrix-found.ensures.loaded _ c.in-Accepted.is in
+    record {
+      costs = _;
+      file = loaded;
+      fits = passed c.check_call_with-test.ensures c.in-Passed.is;
+      is = c.root_node-root.ensures;
+    } in
     sym rooted.file.long
 
 pub begin-start-requires : goal.begin-start-requires
 begin-start-requires c =
     let rooted : let a = c.args in
-        Rooted a.file.now a.limit (length a.plan.now) (asking a.agreed.now a.absent.now a.pairs.now) c.in-Accepted.shape
-        c.read_matrix-found.new.matrix c.root_node-root.result = let loaded : let a = c.args in
-            Loaded a.file.now c.in-Accepted.shape c.read_matrix-found.new.matrix c.read_matrix-found.new.costs = c.read_matrix-found.ensures.loaded _ c.in-Accepted.is in
-        record {
-          costs = _;
-          file = loaded;
-          fits = passed c.check_call_with-test.ensures c.in-Passed.is;
-          is = c.root_node-root.ensures;
-        } in
+    Rooted a.file.now a.limit (length a.plan.now) (asking a.agreed.now a.absent.now a.pairs.now) c.in-Accepted.shape
+    c.read_matrix-found.new.matrix c.root_node-root.result = let loaded : let a = c.args in
+    Loaded a.file.now c.in-Accepted.shape c.read_matrix-found.new.matrix c.read_matrix-found.new.costs = c.read_matrix-found.ensures.loaded _ c.in-Accepted.is in
+    record {
+      costs = _;
+      file = loaded;
+      fits = passed c.check_call_with-test.ensures c.in-Passed.is;
+      is = c.root_node-root.ensures;
+    } in
     begins _ _ _ _ _ _ _ _ rooted
 
 pub slice_bounds-search_from-end : goal.slice_bounds-search_from-end
 slice_bounds-search_from-end c =
     let rooted : let a = c.args in
-        Rooted a.file.now a.limit (length a.plan.now) (asking a.agreed.now a.absent.now a.pairs.now) c.in-Accepted.shape
-        c.read_matrix-found.new.matrix c.root_node-root.result = let loaded : let a = c.args in
-            Loaded a.file.now c.in-Accepted.shape c.read_matrix-found.new.matrix c.read_matrix-found.new.costs = c.read_matrix-found.ensures.loaded _ c.in-Accepted.is in
-        record {
-          costs = _;
-          file = loaded;
-          fits = passed c.check_call_with-test.ensures c.in-Passed.is;
-          is = c.root_node-root.ensures;
-        } in
+    Rooted a.file.now a.limit (length a.plan.now) (asking a.agreed.now a.absent.now a.pairs.now) c.in-Accepted.shape
+    c.read_matrix-found.new.matrix c.root_node-root.result = let loaded : let a = c.args in
+    Loaded a.file.now c.in-Accepted.shape c.read_matrix-found.new.matrix c.read_matrix-found.new.costs = c.read_matrix-found.ensures.loaded _ c.in-Accepted.is in
+    record {
+      costs = _;
+      file = loaded;
+      fits = passed c.check_call_with-test.ensures c.in-Passed.is;
+      is = c.root_node-root.ensures;
+    } in
     sym rooted.file.long
 
 pub search_from-done-requires : goal.search_from-done-requires
 search_from-done-requires c =
     let rooted : let a = c.args in
-        Rooted a.file.now a.limit (length a.plan.now) (asking a.agreed.now a.absent.now a.pairs.now) c.in-Accepted.shape
-        c.read_matrix-found.new.matrix c.root_node-root.result = let loaded : let a = c.args in
-            Loaded a.file.now c.in-Accepted.shape c.read_matrix-found.new.matrix c.read_matrix-found.new.costs = c.read_matrix-found.ensures.loaded _ c.in-Accepted.is in
-        record {
-          costs = _;
-          file = loaded;
-          fits = passed c.check_call_with-test.ensures c.in-Passed.is;
-          is = c.root_node-root.ensures;
-        } in
+    Rooted a.file.now a.limit (length a.plan.now) (asking a.agreed.now a.absent.now a.pairs.now) c.in-Accepted.shape
+    c.read_matrix-found.new.matrix c.root_node-root.result = let loaded : let a = c.args in
+    Loaded a.file.now c.in-Accepted.shape c.read_matrix-found.new.matrix c.read_matrix-found.new.costs = c.read_matrix-found.ensures.loaded _ c.in-Accepted.is in
+    record {
+      costs = _;
+      file = loaded;
+      fits = passed c.check_call_with-test.ensures c.in-Passed.is;
+      is = c.root_node-root.ensures;
+    } in
     searchable _ _ _ _ _ _ _ _ rooted _ c.begin-start.ensures
 
 pub shift-added-requires : goal.shift-added-requires
 shift-added-requires c =
     let rooted : let a = c.args in
-        Rooted a.file.now a.limit (length a.plan.now) (asking a.agreed.now a.absent.now a.pairs.now) c.in-Accepted.shape
-        c.read_matrix-found.new.matrix c.root_node-root.result = let loaded : let a = c.args in
-            Loaded a.file.now c.in-Accepted.shape c.read_matrix-found.new.matrix c.read_matrix-found.new.costs = c.read_matrix-found.ensures.loaded _ c.in-Accepted.is in
-        record {
-          costs = _;
-          file = loaded;
-          fits = passed c.check_call_with-test.ensures c.in-Passed.is;
-          is = c.root_node-root.ensures;
-        } in
+    Rooted a.file.now a.limit (length a.plan.now) (asking a.agreed.now a.absent.now a.pairs.now) c.in-Accepted.shape
+    c.read_matrix-found.new.matrix c.root_node-root.result = let loaded : let a = c.args in
+    Loaded a.file.now c.in-Accepted.shape c.read_matrix-found.new.matrix c.read_matrix-found.new.costs = c.read_matrix-found.ensures.loaded _ c.in-Accepted.is in
+    record {
+      costs = _;
+      file = loaded;
+      fits = passed c.check_call_with-test.ensures c.in-Passed.is;
+      is = c.root_node-root.ensures;
+    } in
     few-rows _ _ _ _ _ _ _ rooted
 
 pub give-requires : goal.give-requires
 give-requires c =
     let rooted : let a = c.args in
-        Rooted a.file.now a.limit (length a.plan.now) (asking a.agreed.now a.absent.now a.pairs.now) c.in-Accepted.shape
-        c.read_matrix-found.new.matrix c.root_node-root.result = let loaded : let a = c.args in
-            Loaded a.file.now c.in-Accepted.shape c.read_matrix-found.new.matrix c.read_matrix-found.new.costs = c.read_matrix-found.ensures.loaded _ c.in-Accepted.is in
-        record {
-          costs = _;
-          file = loaded;
-          fits = passed c.check_call_with-test.ensures c.in-Passed.is;
-          is = c.root_node-root.ensures;
-        } in
+    Rooted a.file.now a.limit (length a.plan.now) (asking a.agreed.now a.absent.now a.pairs.now) c.in-Accepted.shape
+    c.read_matrix-found.new.matrix c.root_node-root.result = let loaded : let a = c.args in
+    Loaded a.file.now c.in-Accepted.shape c.read_matrix-found.new.matrix c.read_matrix-found.new.costs = c.read_matrix-found.ensures.loaded _ c.in-Accepted.is in
+    record {
+      costs = _;
+      file = loaded;
+      fits = passed c.check_call_with-test.ensures c.in-Passed.is;
+      is = c.root_node-root.ensures;
+    } in
     plan-fits _ _ _ _ _ _ _ _ rooted _ c.begin-start.ensures _ c.search_from-done.ensures
 
 pub returns-in-Refused : goal.returns-in-Refused
@@ -116,22 +116,22 @@ pub returns-in-Failed : goal.returns-in-Failed
 unfolding search_outcome filled
 returns-in-Failed c =
     let loaded : let a = c.args in
-        Loaded a.file.now c.in-Accepted.shape c.read_matrix-found.new.matrix c.read_matrix-found.new.costs = c.read_matrix-found.ensures.loaded _ c.in-Accepted.is in record { result_value = refused-call _ _ _ _ _ _ _ _ loaded _ (failed c.check_call_with-test.ensures _ c.in-Failed.is); plan_after = refl; demand_for = λ v e. absurd (refused_none _ v e) }
+    Loaded a.file.now c.in-Accepted.shape c.read_matrix-found.new.matrix c.read_matrix-found.new.costs = c.read_matrix-found.ensures.loaded _ c.in-Accepted.is in record { result_value = refused-call _ _ _ _ _ _ _ _ loaded _ (failed c.check_call_with-test.ensures _ c.in-Failed.is); plan_after = refl; demand_for = λ v e. absurd (refused_none _ v e) }
 
 pub returns-in-Passed : goal.returns-in-Passed
 returns-in-Passed c =
     let rooted : let a = c.args in
-        Rooted a.file.now a.limit (length a.plan.now) (asking a.agreed.now a.absent.now a.pairs.now) c.in-Accepted.shape
-        c.read_matrix-found.new.matrix c.root_node-root.result = let loaded : let a = c.args in
-            Loaded a.file.now c.in-Accepted.shape c.read_matrix-found.new.matrix c.read_matrix-found.new.costs = c.read_matrix-found.ensures.loaded _ c.in-Accepted.is in
-        record {
-          costs = _;
-          file = loaded;
-          fits = passed c.check_call_with-test.ensures c.in-Passed.is;
-          is = c.root_node-root.ensures;
-        } in
+    Rooted a.file.now a.limit (length a.plan.now) (asking a.agreed.now a.absent.now a.pairs.now) c.in-Accepted.shape
+    c.read_matrix-found.new.matrix c.root_node-root.result = let loaded : let a = c.args in
+    Loaded a.file.now c.in-Accepted.shape c.read_matrix-found.new.matrix c.read_matrix-found.new.costs = c.read_matrix-found.ensures.loaded _ c.in-Accepted.is in
+    record {
+      costs = _;
+      file = loaded;
+      fits = passed c.check_call_with-test.ensures c.in-Passed.is;
+      is = c.root_node-root.ensures;
+    } in
     let first : let a = c.args in
-        first_fault a.goal a.file.now ≡ fine = c.requires in
+    first_fault a.goal a.file.now ≡ fine = c.requires in
     let w = rooted in
     let i = c.begin-start.ensures in
     let x = c.search_from-done.result in

@@ -32,7 +32,7 @@ branch-node-u-requires t c =
     let p = matrix_in a.matrix.now in
     let j = c.choose_for-chosen.result.column in
     let with : c.take-child.result ≡ take p a.s j ((search_for a.goal p).join a.s j) =
-        takes-is _ _ _ _ (can_take _ _ _ _ _ c.requires _ c.choose_for-chosen.ensures) _ c.join-bound.ensures _ c.take-child.ensures in
+    takes-is _ _ _ _ (can_take _ _ _ _ _ c.requires _ c.choose_for-chosen.ensures) _ c.join-bound.ensures _ c.take-child.ensures in
     let l = first-falls _ _ _ _ _ c.requires _ c.choose_for-chosen.ensures _ with in
     (omega (arith, l, c.decreases), first_walks _ _ _ _ _ c.requires _ c.choose_for-chosen.ensures _ with)
 
@@ -58,9 +58,10 @@ branch-leave-child-requires t c = column-low _ _ _ _ _ c.requires _ c.choose_for
 
 pub branch-node-t-requires : goal.branch-node-t-requires
 branch-node-t-requires t c =
-    let l = second-falls _ _ _ _ _ c.requires _ c.choose_for-chosen.ensures _ c.leave-child.ensures in
-    (omega (arith, l, c.decreases),
-     second_walks _ _ _ _ _ c.requires _ c.choose_for-chosen.ensures _ c.leave-child.ensures _ c.node-u.ensures.sum)
+    let l = second-falls _ _ _ _ _ c.requires _ c.choose_for-chosen.ensures _ c.leave-child.ensures in (
+      omega (arith, l, c.decreases),
+      second_walks _ _ _ _ _ c.requires _ c.choose_for-chosen.ensures _ c.leave-child.ensures _ c.node-u.ensures.sum,
+    )
 
 pub branch-returns : goal.branch-returns
 branch-returns t c =
@@ -73,9 +74,9 @@ branch-returns t c =
 
 pub node-returns-then-t-eq0 : goal.node-returns-then-t-eq0
 node-returns-then-t-eq0 t c = record {
-      tree = node-halts _ _ _ c.args.t c.if-t-eq0.true c.halt.result c.halt.ensures;
-      sum = halted-sum c.args.t c.halt.result c.halt.ensures;
-    }
+  tree = node-halts _ _ _ c.args.t c.if-t-eq0.true c.halt.result c.halt.ensures;
+  sum = halted-sum c.args.t c.halt.result c.halt.ensures;
+}
 
 pub node-enter-u-requires : goal.node-enter-u-requires
 node-enter-u-requires t c = (omega (arith, c.if-t-eq0.false), omega (arith, c.requires.count))
@@ -85,26 +86,26 @@ node-settle_node-found-requires t c = c.requires.some
 
 pub node-returns-then-not-found : goal.node-returns-then-not-found
 node-returns-then-not-found t c = record {
-      tree = node-ends _ _ _ c.args.t c.if-t-eq0.false c.enter-u.result c.enter-u.ensures _
-          (comes _ _ _ _ _ c.requires _ c.settle_node-found.ensures) (not-true _ c.if-not-found.true);
-      sum = entered-sum c.args.t c.enter-u.result c.if-t-eq0.false c.enter-u.ensures;
-    }
+  tree = node-ends _ _ _ c.args.t c.if-t-eq0.false c.enter-u.result c.enter-u.ensures _
+      (comes _ _ _ _ _ c.requires _ c.settle_node-found.ensures) (not-true _ c.if-not-found.true);
+  sum = entered-sum c.args.t c.enter-u.result c.if-t-eq0.false c.enter-u.ensures;
+}
 
 pub node-returns-then-found : goal.node-returns-then-found
 node-returns-then-found t c = record {
-      tree = node-offers _ _ _ c.args.t c.if-t-eq0.false c.enter-u.result c.enter-u.ensures _
-          (comes _ _ _ _ _ c.requires _ c.settle_node-found.ensures) (not-false _ c.if-not-found.false) c.if-found.true c.offer.result c.offer.ensures;
-      sum = offered-sum c.enter-u.result c.offer.result _ c.settle_node-found.result.node.column c.offer.ensures
-          ∙ entered-sum c.args.t c.enter-u.result c.if-t-eq0.false c.enter-u.ensures;
-    }
+  tree = node-offers _ _ _ c.args.t c.if-t-eq0.false c.enter-u.result c.enter-u.ensures _
+      (comes _ _ _ _ _ c.requires _ c.settle_node-found.ensures) (not-false _ c.if-not-found.false) c.if-found.true c.offer.result c.offer.ensures;
+  sum = offered-sum c.enter-u.result c.offer.result _ c.settle_node-found.result.node.column c.offer.ensures
+      ∙ entered-sum c.args.t c.enter-u.result c.if-t-eq0.false c.enter-u.ensures;
+}
 
 pub node-returns-then-is_reached : goal.node-returns-then-is_reached
 node-returns-then-is_reached t c = record {
-      tree = node-reached _ _ _ c.args.t c.if-t-eq0.false c.enter-u.result c.enter-u.ensures _
-          (comes _ _ _ _ _ c.requires _ c.settle_node-found.ensures) (not-false _ c.if-not-found.false) c.if-found.false _
-          c.is_reached.ensures c.if-is_reached.true;
-      sum = entered-sum c.args.t c.enter-u.result c.if-t-eq0.false c.enter-u.ensures;
-    }
+  tree = node-reached _ _ _ c.args.t c.if-t-eq0.false c.enter-u.result c.enter-u.ensures _
+      (comes _ _ _ _ _ c.requires _ c.settle_node-found.ensures) (not-false _ c.if-not-found.false) c.if-found.false _
+      c.is_reached.ensures c.if-is_reached.true;
+  sum = entered-sum c.args.t c.enter-u.result c.if-t-eq0.false c.enter-u.ensures;
+}
 
 pub node-branch-goal-requires : goal.node-branch-goal-requires
 node-branch-goal-requires t c =
@@ -115,8 +116,8 @@ node-branch-goal-requires t c =
 
 pub node-returns : goal.node-returns
 node-returns t c = record {
-      tree = node-branches _ _ _ c.args.t c.if-t-eq0.false c.enter-u.result c.enter-u.ensures _
-          (comes _ _ _ _ _ c.requires _ c.settle_node-found.ensures) (not-false _ c.if-not-found.false) c.if-found.false _
-          c.is_reached.ensures c.if-is_reached.false c.branch-goal.result c.branch-goal.ensures.tree;
-      sum = c.branch-goal.ensures.sum ∙ entered-sum c.args.t c.enter-u.result c.if-t-eq0.false c.enter-u.ensures;
-    }
+  tree = node-branches _ _ _ c.args.t c.if-t-eq0.false c.enter-u.result c.enter-u.ensures _
+      (comes _ _ _ _ _ c.requires _ c.settle_node-found.ensures) (not-false _ c.if-not-found.false) c.if-found.false _
+      c.is_reached.ensures c.if-is_reached.false c.branch-goal.result c.branch-goal.ensures.tree;
+  sum = c.branch-goal.ensures.sum ∙ entered-sum c.args.t c.enter-u.result c.if-t-eq0.false c.enter-u.ensures;
+}

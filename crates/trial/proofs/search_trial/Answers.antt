@@ -15,47 +15,41 @@ append-requires c = let p = c.requires in places _ _ _ _ _ p.0 _ p.1 p.2
 pub slice_bounds-fill_matrix-end : goal.slice_bounds-fill_matrix-end
 slice_bounds-fill_matrix-end c =
     let lists_made : let a = c.args in
-        
-        Listed (trial_file a.found a.costs a.lengths a.numbers a.k) (more a.found a.k) c.append.new.costs c.append.new.lengths c.append.new.numbers = made _ _ _ _ _ c.requires.0 _ c.requires.1 c.requires.2 _ _ _ c.append.ensures.costs_after c.append.ensures.lengths_after c.append.ensures.numbers_after (search rules) (search rules) (search rules) in
+    Listed (trial_file a.found a.costs a.lengths a.numbers a.k) (more a.found a.k) c.append.new.costs c.append.new.lengths c.append.new.numbers = made _ _ _ _ _ c.requires.0 _ c.requires.1 c.requires.2 _ _ _ c.append.ensures.costs_after c.append.ensures.lengths_after c.append.ensures.numbers_after (search rules) (search rules) (search rules) in
     let long : (length c.append.new.costs ≡ 256) × (length c.append.new.lengths ≡ 256) × (length c.append.new.numbers ≡ 4096) = made_long _ _ _ _ _ c.requires.0 _ c.requires.1 c.requires.2 _ _ _ c.append.ensures.costs_after c.append.ensures.lengths_after c.append.ensures.numbers_after (search rules) (search rules) (search rules) in
     omega (arith, lists_made.columns, long.1)
 
 pub slice_bounds-fill_matrix-end-2 : goal.slice_bounds-fill_matrix-end-2
 slice_bounds-fill_matrix-end-2 c =
     let lists_made : let a = c.args in
-        
-        Listed (trial_file a.found a.costs a.lengths a.numbers a.k) (more a.found a.k) c.append.new.costs c.append.new.lengths c.append.new.numbers = made _ _ _ _ _ c.requires.0 _ c.requires.1 c.requires.2 _ _ _ c.append.ensures.costs_after c.append.ensures.lengths_after c.append.ensures.numbers_after (search rules) (search rules) (search rules) in
+    Listed (trial_file a.found a.costs a.lengths a.numbers a.k) (more a.found a.k) c.append.new.costs c.append.new.lengths c.append.new.numbers = made _ _ _ _ _ c.requires.0 _ c.requires.1 c.requires.2 _ _ _ c.append.ensures.costs_after c.append.ensures.lengths_after c.append.ensures.numbers_after (search rules) (search rules) (search rules) in
     let long : (length c.append.new.costs ≡ 256) × (length c.append.new.lengths ≡ 256) × (length c.append.new.numbers ≡ 4096) = made_long _ _ _ _ _ c.requires.0 _ c.requires.1 c.requires.2 _ _ _ c.append.ensures.costs_after c.append.ensures.lengths_after c.append.ensures.numbers_after (search rules) (search rules) (search rules) in
     omega (arith, lists_made.entries, long.2)
 
 pub fill_matrix-requires : goal.fill_matrix-requires
 fill_matrix-requires c =
     let lists_made : let a = c.args in
-        
-        Listed (trial_file a.found a.costs a.lengths a.numbers a.k) (more a.found a.k) c.append.new.costs c.append.new.lengths c.append.new.numbers = made _ _ _ _ _ c.requires.0 _ c.requires.1 c.requires.2 _ _ _ c.append.ensures.costs_after c.append.ensures.lengths_after c.append.ensures.numbers_after (search rules) (search rules) (search rules) in
+    Listed (trial_file a.found a.costs a.lengths a.numbers a.k) (more a.found a.k) c.append.new.costs c.append.new.lengths c.append.new.numbers = made _ _ _ _ _ c.requires.0 _ c.requires.1 c.requires.2 _ _ _ c.append.ensures.costs_after c.append.ensures.lengths_after c.append.ensures.numbers_after (search rules) (search rules) (search rules) in
     parts_statable _ _ _ _ _ lists_made
 
 pub slice_bounds-raise_all-end : goal.slice_bounds-raise_all-end
 slice_bounds-raise_all-end c =
     let lists_made : let a = c.args in
-        
-        Listed (trial_file a.found a.costs a.lengths a.numbers a.k) (more a.found a.k) c.append.new.costs c.append.new.lengths c.append.new.numbers = made _ _ _ _ _ c.requires.0 _ c.requires.1 c.requires.2 _ _ _ c.append.ensures.costs_after c.append.ensures.lengths_after c.append.ensures.numbers_after (search rules) (search rules) (search rules) in
+    Listed (trial_file a.found a.costs a.lengths a.numbers a.k) (more a.found a.k) c.append.new.costs c.append.new.lengths c.append.new.numbers = made _ _ _ _ _ c.requires.0 _ c.requires.1 c.requires.2 _ _ _ c.append.ensures.costs_after c.append.ensures.lengths_after c.append.ensures.numbers_after (search rules) (search rules) (search rules) in
     let long : (length c.append.new.costs ≡ 256) × (length c.append.new.lengths ≡ 256) × (length c.append.new.numbers ≡ 4096) = made_long _ _ _ _ _ c.requires.0 _ c.requires.1 c.requires.2 _ _ _ c.append.ensures.costs_after c.append.ensures.lengths_after c.append.ensures.numbers_after (search rules) (search rules) (search rules) in
     omega (arith, lists_made.columns, long.0)
 
 pub slice_bounds-raise_all-end-2 : goal.slice_bounds-raise_all-end-2
 slice_bounds-raise_all-end-2 c =
     let lists_made : let a = c.args in
-        
-        Listed (trial_file a.found a.costs a.lengths a.numbers a.k) (more a.found a.k) c.append.new.costs c.append.new.lengths c.append.new.numbers = made _ _ _ _ _ c.requires.0 _ c.requires.1 c.requires.2 _ _ _ c.append.ensures.costs_after c.append.ensures.lengths_after c.append.ensures.numbers_after (search rules) (search rules) (search rules) in
+    Listed (trial_file a.found a.costs a.lengths a.numbers a.k) (more a.found a.k) c.append.new.costs c.append.new.lengths c.append.new.numbers = made _ _ _ _ _ c.requires.0 _ c.requires.1 c.requires.2 _ _ _ c.append.ensures.costs_after c.append.ensures.lengths_after c.append.ensures.numbers_after (search rules) (search rules) (search rules) in
     let long : (length c.append.new.costs ≡ 256) × (length c.append.new.lengths ≡ 256) × (length c.append.new.numbers ≡ 4096) = made_long _ _ _ _ _ c.requires.0 _ c.requires.1 c.requires.2 _ _ _ c.append.ensures.costs_after c.append.ensures.lengths_after c.append.ensures.numbers_after (search rules) (search rules) (search rules) in
     omega (arith, lists_made.columns, long.1)
 
 pub raise_all-raised-requires : goal.raise_all-raised-requires
 raise_all-raised-requires c =
     let lists_made : let a = c.args in
-        
-        Listed (trial_file a.found a.costs a.lengths a.numbers a.k) (more a.found a.k) c.append.new.costs c.append.new.lengths c.append.new.numbers = made _ _ _ _ _ c.requires.0 _ c.requires.1 c.requires.2 _ _ _ c.append.ensures.costs_after c.append.ensures.lengths_after c.append.ensures.numbers_after (search rules) (search rules) (search rules) in
+    Listed (trial_file a.found a.costs a.lengths a.numbers a.k) (more a.found a.k) c.append.new.costs c.append.new.lengths c.append.new.numbers = made _ _ _ _ _ c.requires.0 _ c.requires.1 c.requires.2 _ _ _ c.append.ensures.costs_after c.append.ensures.lengths_after c.append.ensures.numbers_after (search rules) (search rules) (search rules) in
     parts-priced _ _ _ _ _ lists_made
 
 pub root_node-first-requires : goal.root_node-first-requires
@@ -64,21 +58,19 @@ root_node-first-requires c = c.fill_matrix.ensures.holds.kept
 pub search_live-requires : goal.search_live-requires
 search_live-requires c =
     let lists_loaded : let a = c.args in
-        Loaded (trial_file a.found a.costs a.lengths a.numbers a.k) (more a.found a.k) c.fill_matrix.new.matrix c.raise_all-raised.result = let lists_made : let a = c.args in
-            
-            Listed (trial_file a.found a.costs a.lengths a.numbers a.k) (more a.found a.k) c.append.new.costs c.append.new.lengths c.append.new.numbers = made _ _ _ _ _ c.requires.0 _ c.requires.1 c.requires.2 _ _ _ c.append.ensures.costs_after c.append.ensures.lengths_after c.append.ensures.numbers_after (search rules) (search rules) (search rules) in
-        let l = lists_made in
-        loaded_as _ _ _ _ _ l _ _ c.fill_matrix.ensures.matrix_len (parts-raised _ _ _ _ _ l _ c.raise_all-raised.ensures) c.fill_matrix.ensures.holds _ refl in
+    Loaded (trial_file a.found a.costs a.lengths a.numbers a.k) (more a.found a.k) c.fill_matrix.new.matrix c.raise_all-raised.result = let lists_made : let a = c.args in
+    Listed (trial_file a.found a.costs a.lengths a.numbers a.k) (more a.found a.k) c.append.new.costs c.append.new.lengths c.append.new.numbers = made _ _ _ _ _ c.requires.0 _ c.requires.1 c.requires.2 _ _ _ c.append.ensures.costs_after c.append.ensures.lengths_after c.append.ensures.numbers_after (search rules) (search rules) (search rules) in
+    let l = lists_made in
+    loaded_as _ _ _ _ _ l _ _ c.fill_matrix.ensures.matrix_len (parts-raised _ _ _ _ _ l _ c.raise_all-raised.ensures) c.fill_matrix.ensures.holds _ refl in
     let p = c.requires in
     searchable _ _ _ _ _ p.0 _ p.1 p.2 _ _ lists_loaded _ c.root_node-first.ensures
 
 pub returns : goal.returns
 returns c =
     let lists_loaded : let a = c.args in
-        Loaded (trial_file a.found a.costs a.lengths a.numbers a.k) (more a.found a.k) c.fill_matrix.new.matrix c.raise_all-raised.result = let lists_made : let a = c.args in
-            
-            Listed (trial_file a.found a.costs a.lengths a.numbers a.k) (more a.found a.k) c.append.new.costs c.append.new.lengths c.append.new.numbers = made _ _ _ _ _ c.requires.0 _ c.requires.1 c.requires.2 _ _ _ c.append.ensures.costs_after c.append.ensures.lengths_after c.append.ensures.numbers_after (search rules) (search rules) (search rules) in
-        let l = lists_made in
-        loaded_as _ _ _ _ _ l _ _ c.fill_matrix.ensures.matrix_len (parts-raised _ _ _ _ _ l _ c.raise_all-raised.ensures) c.fill_matrix.ensures.holds _ refl in
+    Loaded (trial_file a.found a.costs a.lengths a.numbers a.k) (more a.found a.k) c.fill_matrix.new.matrix c.raise_all-raised.result = let lists_made : let a = c.args in
+    Listed (trial_file a.found a.costs a.lengths a.numbers a.k) (more a.found a.k) c.append.new.costs c.append.new.lengths c.append.new.numbers = made _ _ _ _ _ c.requires.0 _ c.requires.1 c.requires.2 _ _ _ c.append.ensures.costs_after c.append.ensures.lengths_after c.append.ensures.numbers_after (search rules) (search rules) (search rules) in
+    let l = lists_made in
+    loaded_as _ _ _ _ _ l _ _ c.fill_matrix.ensures.matrix_len (parts-raised _ _ _ _ _ l _ c.raise_all-raised.ensures) c.fill_matrix.ensures.holds _ refl in
     let p = c.requires in
     searched _ _ _ _ _ p.0 _ p.1 p.2 _ _ lists_loaded _ c.root_node-first.ensures c.search_live.result c.search_live.ensures

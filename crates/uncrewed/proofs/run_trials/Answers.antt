@@ -23,9 +23,9 @@ pub returns-then-tally : goal.returns-then-tally
 returns-then-tally c =
     record {
       result_value = (ends-stopped _ _ _ _ _ _ _ _ _ c.loop-k.invariant c.loop-k-test.true c.search_trial-done.result c.search_trial-done.ensures
-    (not-true _ c.if-not-tally.true) c.if-tally.true).0;
+          (not-true _ c.if-not-tally.true) c.if-tally.true).0;
       shown_after = (ends-stopped _ _ _ _ _ _ _ _ _ c.loop-k.invariant c.loop-k-test.true c.search_trial-done.result c.search_trial-done.ensures
-    (not-true _ c.if-not-tally.true) c.if-tally.true).1;
+          (not-true _ c.if-not-tally.true) c.if-tally.true).1;
     }
 
 pub put_plan-taken-requires : goal.put_plan-taken-requires
@@ -43,9 +43,9 @@ pub returns-then-not-tally : goal.returns-then-not-tally
 returns-then-not-tally c =
     record {
       result_value = (ends-shown _ _ _ _ _ _ _ _ _ c.loop-k.invariant c.loop-k-test.true c.search_trial-done.result c.search_trial-done.ensures
-    (not-true _ c.if-not-tally.true) c.if-tally.false _ _ c.put_plan-taken.ensures.value c.put_plan-taken.ensures.plan_after).0;
+          (not-true _ c.if-not-tally.true) c.if-tally.false _ _ c.put_plan-taken.ensures.value c.put_plan-taken.ensures.plan_after).0;
       shown_after = (ends-shown _ _ _ _ _ _ _ _ _ c.loop-k.invariant c.loop-k-test.true c.search_trial-done.result c.search_trial-done.ensures
-    (not-true _ c.if-not-tally.true) c.if-tally.false _ _ c.put_plan-taken.ensures.value c.put_plan-taken.ensures.plan_after).1;
+          (not-true _ c.if-not-tally.true) c.if-tally.false _ _ c.put_plan-taken.ensures.value c.put_plan-taken.ensures.plan_after).1;
     }
 
 pub overflow_add-k : goal.overflow_add-k

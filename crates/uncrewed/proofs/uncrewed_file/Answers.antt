@@ -10,13 +10,13 @@ use Rattle.uncrewed.proofs.uncrewed_file.Goals as goal
 pub check_uncrewed-test-requires : goal.check_uncrewed-test-requires
 check_uncrewed-test-requires c =
     let fronts : Fronts c.args.file.now c.in-Accepted.shape
-        c.read_lists-found.new.costs c.read_lists-found.new.lengths c.read_lists-found.new.numbers = file_fronts _ _ c.read_lists-found.ensures.result_value _ c.in-Accepted.is _ _ _ _ _ _ c.read_lists-found.ensures.costs_after c.read_lists-found.ensures.lengths_after c.read_lists-found.ensures.numbers_after in
+    c.read_lists-found.new.costs c.read_lists-found.new.lengths c.read_lists-found.new.numbers = file_fronts _ _ c.read_lists-found.ensures.result_value _ c.in-Accepted.is _ _ _ _ _ _ c.read_lists-found.ensures.costs_after c.read_lists-found.ensures.lengths_after c.read_lists-found.ensures.numbers_after in
     sized _ _ _ _ _ fronts
 
 pub run_trials-requires : goal.run_trials-requires
 run_trials-requires c =
     let fronts : Fronts c.args.file.now c.in-Accepted.shape
-        c.read_lists-found.new.costs c.read_lists-found.new.lengths c.read_lists-found.new.numbers = file_fronts _ _ c.read_lists-found.ensures.result_value _ c.in-Accepted.is _ _ _ _ _ _ c.read_lists-found.ensures.costs_after c.read_lists-found.ensures.lengths_after c.read_lists-found.ensures.numbers_after in
+    c.read_lists-found.new.costs c.read_lists-found.new.lengths c.read_lists-found.new.numbers = file_fronts _ _ c.read_lists-found.ensures.result_value _ c.in-Accepted.is _ _ _ _ _ _ c.read_lists-found.ensures.costs_after c.read_lists-found.ensures.lengths_after c.read_lists-found.ensures.numbers_after in
     let f = fronts in
     let g = passed c.check_uncrewed-test.ensures c.in-Passed.is in
     (ready _ _ _ _ _ _ _ f g, has_room _ _ _ _ _ _ _ f g)
@@ -29,12 +29,12 @@ pub returns-in-Failed : goal.returns-in-Failed
 unfolding uncrewed_outcome filled
 returns-in-Failed c =
     let fronts : Fronts c.args.file.now c.in-Accepted.shape
-        c.read_lists-found.new.costs c.read_lists-found.new.lengths c.read_lists-found.new.numbers = file_fronts _ _ c.read_lists-found.ensures.result_value _ c.in-Accepted.is _ _ _ _ _ _ c.read_lists-found.ensures.costs_after c.read_lists-found.ensures.lengths_after c.read_lists-found.ensures.numbers_after in record { result_value = refused-call _ _ _ _ _ _ _ fronts _ (failed c.check_uncrewed-test.ensures _ c.in-Failed.is); shown_after = refl; told = refused-tells _ _ _ _ }
+    c.read_lists-found.new.costs c.read_lists-found.new.lengths c.read_lists-found.new.numbers = file_fronts _ _ c.read_lists-found.ensures.result_value _ c.in-Accepted.is _ _ _ _ _ _ c.read_lists-found.ensures.costs_after c.read_lists-found.ensures.lengths_after c.read_lists-found.ensures.numbers_after in record { result_value = refused-call _ _ _ _ _ _ _ fronts _ (failed c.check_uncrewed-test.ensures _ c.in-Failed.is); shown_after = refl; told = refused-tells _ _ _ _ }
 
 pub returns-in-Passed : goal.returns-in-Passed
 returns-in-Passed c =
     let fronts : Fronts c.args.file.now c.in-Accepted.shape
-        c.read_lists-found.new.costs c.read_lists-found.new.lengths c.read_lists-found.new.numbers = file_fronts _ _ c.read_lists-found.ensures.result_value _ c.in-Accepted.is _ _ _ _ _ _ c.read_lists-found.ensures.costs_after c.read_lists-found.ensures.lengths_after c.read_lists-found.ensures.numbers_after in
+    c.read_lists-found.new.costs c.read_lists-found.new.lengths c.read_lists-found.new.numbers = file_fronts _ _ c.read_lists-found.ensures.result_value _ c.in-Accepted.is _ _ _ _ _ _ c.read_lists-found.ensures.costs_after c.read_lists-found.ensures.lengths_after c.read_lists-found.ensures.numbers_after in
     let f = fronts in
     let g = passed c.check_uncrewed-test.ensures c.in-Passed.is in
     let x = c.run_trials.result in record { result_value = given-answer _ _ _ _ _ _ _ f g x c.run_trials.ensures.result_value; shown_after = given_list _ _ _ _ _ _ _ f g x c.run_trials.ensures.result_value _ _ c.run_trials.ensures.shown_after; told = given-tells _ _ _ _ _ _ _ f g x c.run_trials.ensures.result_value _ _ c.run_trials.ensures.shown_after }

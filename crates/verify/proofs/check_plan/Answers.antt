@@ -17,28 +17,28 @@ pub returns-then-not-columns_rise : goal.returns-then-not-columns_rise
 unfolding check_outcome read_outcome shape
 returns-then-not-columns_rise c =
     let found : let s = c.args.file.now in
-        (file_fault s ≡ fine) × (shape s ≡ c.in-Accepted.shape) = accepts _ _ _ (sym (rw c.in-Accepted.is at c.examine-found.ensures)) in
+    (file_fault s ≡ fine) × (shape s ≡ c.in-Accepted.shape) = accepts _ _ _ (sym (rw c.in-Accepted.is at c.examine-found.ensures)) in
     let rises : let a = c.args in
-        c.columns_rise.result ≡ rising 0 (columns_in a.file.now) a.columns.now = let columns_is : c.in-Accepted.shape.columns ≡ columns_in c.args.file.now = let found : let s = c.args.file.now in
-                (file_fault s ≡ fine) × (shape s ≡ c.in-Accepted.shape) = accepts _ _ _ (sym (rw c.in-Accepted.is at c.examine-found.ensures)) in
-            ap (λ (h : Shape). h.columns) (sym found.1) in
-        let a = c.args in
-        c.columns_rise.ensures ∙ ap (λ n. rising 0 n a.columns.now) columns_is in
+    c.columns_rise.result ≡ rising 0 (columns_in a.file.now) a.columns.now = let columns_is : c.in-Accepted.shape.columns ≡ columns_in c.args.file.now = let found : let s = c.args.file.now in
+    (file_fault s ≡ fine) × (shape s ≡ c.in-Accepted.shape) = accepts _ _ _ (sym (rw c.in-Accepted.is at c.examine-found.ensures)) in
+    ap (λ (h : Shape). h.columns) (sym found.1) in
+    let a = c.args in
+    c.columns_rise.ensures ∙ ap (λ n. rising 0 n a.columns.now) columns_is in
     checking-not-rising _ _ found.0 (sym rises ∙ c.if-not-columns_rise.true)
 
 pub cover_counts-covered-requires : goal.cover_counts-covered-requires
 unfolding read_outcome shape
 cover_counts-covered-requires c =
     let ready : let a = c.args in
-        (file_fault a.file.now ≡ fine) × (rising 0 (columns_in a.file.now) a.columns.now ≡ true) = let found : let s = c.args.file.now in
-            (file_fault s ≡ fine) × (shape s ≡ c.in-Accepted.shape) = accepts _ _ _ (sym (rw c.in-Accepted.is at c.examine-found.ensures)) in
-        let rises : let a = c.args in
-            c.columns_rise.result ≡ rising 0 (columns_in a.file.now) a.columns.now = let columns_is : c.in-Accepted.shape.columns ≡ columns_in c.args.file.now = let found : let s = c.args.file.now in
-                    (file_fault s ≡ fine) × (shape s ≡ c.in-Accepted.shape) = accepts _ _ _ (sym (rw c.in-Accepted.is at c.examine-found.ensures)) in
-                ap (λ (h : Shape). h.columns) (sym found.1) in
-            let a = c.args in
-            c.columns_rise.ensures ∙ ap (λ n. rising 0 n a.columns.now) columns_is in
-        (found.0, sym rises ∙ c.if-not-columns_rise.false) in
+    (file_fault a.file.now ≡ fine) × (rising 0 (columns_in a.file.now) a.columns.now ≡ true) = let found : let s = c.args.file.now in
+    (file_fault s ≡ fine) × (shape s ≡ c.in-Accepted.shape) = accepts _ _ _ (sym (rw c.in-Accepted.is at c.examine-found.ensures)) in
+    let rises : let a = c.args in
+    c.columns_rise.result ≡ rising 0 (columns_in a.file.now) a.columns.now = let columns_is : c.in-Accepted.shape.columns ≡ columns_in c.args.file.now = let found : let s = c.args.file.now in
+    (file_fault s ≡ fine) × (shape s ≡ c.in-Accepted.shape) = accepts _ _ _ (sym (rw c.in-Accepted.is at c.examine-found.ensures)) in
+    ap (λ (h : Shape). h.columns) (sym found.1) in
+    let a = c.args in
+    c.columns_rise.ensures ∙ ap (λ n. rising 0 n a.columns.now) columns_is in
+    (found.0, sym rises ∙ c.if-not-columns_rise.false) in
     record {
       file_value = (ready).0;
       columns_value = (ready).1;
@@ -48,15 +48,15 @@ pub total_cost-requires : goal.total_cost-requires
 unfolding read_outcome shape
 total_cost-requires c =
     let ready : let a = c.args in
-        (file_fault a.file.now ≡ fine) × (rising 0 (columns_in a.file.now) a.columns.now ≡ true) = let found : let s = c.args.file.now in
-            (file_fault s ≡ fine) × (shape s ≡ c.in-Accepted.shape) = accepts _ _ _ (sym (rw c.in-Accepted.is at c.examine-found.ensures)) in
-        let rises : let a = c.args in
-            c.columns_rise.result ≡ rising 0 (columns_in a.file.now) a.columns.now = let columns_is : c.in-Accepted.shape.columns ≡ columns_in c.args.file.now = let found : let s = c.args.file.now in
-                    (file_fault s ≡ fine) × (shape s ≡ c.in-Accepted.shape) = accepts _ _ _ (sym (rw c.in-Accepted.is at c.examine-found.ensures)) in
-                ap (λ (h : Shape). h.columns) (sym found.1) in
-            let a = c.args in
-            c.columns_rise.ensures ∙ ap (λ n. rising 0 n a.columns.now) columns_is in
-        (found.0, sym rises ∙ c.if-not-columns_rise.false) in
+    (file_fault a.file.now ≡ fine) × (rising 0 (columns_in a.file.now) a.columns.now ≡ true) = let found : let s = c.args.file.now in
+    (file_fault s ≡ fine) × (shape s ≡ c.in-Accepted.shape) = accepts _ _ _ (sym (rw c.in-Accepted.is at c.examine-found.ensures)) in
+    let rises : let a = c.args in
+    c.columns_rise.result ≡ rising 0 (columns_in a.file.now) a.columns.now = let columns_is : c.in-Accepted.shape.columns ≡ columns_in c.args.file.now = let found : let s = c.args.file.now in
+    (file_fault s ≡ fine) × (shape s ≡ c.in-Accepted.shape) = accepts _ _ _ (sym (rw c.in-Accepted.is at c.examine-found.ensures)) in
+    ap (λ (h : Shape). h.columns) (sym found.1) in
+    let a = c.args in
+    c.columns_rise.ensures ∙ ap (λ n. rising 0 n a.columns.now) columns_is in
+    (found.0, sym rises ∙ c.if-not-columns_rise.false) in
     record {
       file_value = (ready).0;
       columns_value = (ready).1;
@@ -66,10 +66,10 @@ pub judge-requires : goal.judge-requires
 unfolding read_outcome shape
 judge-requires c =
     let found : let s = c.args.file.now in
-        (file_fault s ≡ fine) × (shape s ≡ c.in-Accepted.shape) = accepts _ _ _ (sym (rw c.in-Accepted.is at c.examine-found.ensures)) in
+    (file_fault s ≡ fine) × (shape s ≡ c.in-Accepted.shape) = accepts _ _ _ (sym (rw c.in-Accepted.is at c.examine-found.ensures)) in
     let rows_is : c.in-Accepted.shape.rows ≡ rows_in c.args.file.now = let found : let s = c.args.file.now in
-            (file_fault s ≡ fine) × (shape s ≡ c.in-Accepted.shape) = accepts _ _ _ (sym (rw c.in-Accepted.is at c.examine-found.ensures)) in
-        ap (λ (h : Shape). h.rows) (sym found.1) in
+    (file_fault s ≡ fine) × (shape s ≡ c.in-Accepted.shape) = accepts _ _ _ (sym (rw c.in-Accepted.is at c.examine-found.ensures)) in
+    ap (λ (h : Shape). h.rows) (sym found.1) in
     omega (arith, rows_is, (file-fine _ found.0).walked.header.counts.rows.most)
 
 pub returns-in-Refused : goal.returns-in-Refused
@@ -80,18 +80,18 @@ pub returns-else-not-columns_rise : goal.returns-else-not-columns_rise
 unfolding shape read_outcome
 returns-else-not-columns_rise c =
     let rows_is : c.in-Accepted.shape.rows ≡ rows_in c.args.file.now = let found : let s = c.args.file.now in
-            (file_fault s ≡ fine) × (shape s ≡ c.in-Accepted.shape) = accepts _ _ _ (sym (rw c.in-Accepted.is at c.examine-found.ensures)) in
-        ap (λ (h : Shape). h.rows) (sym found.1) in
+    (file_fault s ≡ fine) × (shape s ≡ c.in-Accepted.shape) = accepts _ _ _ (sym (rw c.in-Accepted.is at c.examine-found.ensures)) in
+    ap (λ (h : Shape). h.rows) (sym found.1) in
     let ready : let a = c.args in
-        (file_fault a.file.now ≡ fine) × (rising 0 (columns_in a.file.now) a.columns.now ≡ true) = let found : let s = c.args.file.now in
-            (file_fault s ≡ fine) × (shape s ≡ c.in-Accepted.shape) = accepts _ _ _ (sym (rw c.in-Accepted.is at c.examine-found.ensures)) in
-        let rises : let a = c.args in
-            c.columns_rise.result ≡ rising 0 (columns_in a.file.now) a.columns.now = let columns_is : c.in-Accepted.shape.columns ≡ columns_in c.args.file.now = let found : let s = c.args.file.now in
-                    (file_fault s ≡ fine) × (shape s ≡ c.in-Accepted.shape) = accepts _ _ _ (sym (rw c.in-Accepted.is at c.examine-found.ensures)) in
-                ap (λ (h : Shape). h.columns) (sym found.1) in
-            let a = c.args in
-            c.columns_rise.ensures ∙ ap (λ n. rising 0 n a.columns.now) columns_is in
-        (found.0, sym rises ∙ c.if-not-columns_rise.false) in
+    (file_fault a.file.now ≡ fine) × (rising 0 (columns_in a.file.now) a.columns.now ≡ true) = let found : let s = c.args.file.now in
+    (file_fault s ≡ fine) × (shape s ≡ c.in-Accepted.shape) = accepts _ _ _ (sym (rw c.in-Accepted.is at c.examine-found.ensures)) in
+    let rises : let a = c.args in
+    c.columns_rise.result ≡ rising 0 (columns_in a.file.now) a.columns.now = let columns_is : c.in-Accepted.shape.columns ≡ columns_in c.args.file.now = let found : let s = c.args.file.now in
+    (file_fault s ≡ fine) × (shape s ≡ c.in-Accepted.shape) = accepts _ _ _ (sym (rw c.in-Accepted.is at c.examine-found.ensures)) in
+    ap (λ (h : Shape). h.columns) (sym found.1) in
+    let a = c.args in
+    c.columns_rise.ensures ∙ ap (λ n. rising 0 n a.columns.now) columns_is in
+    (found.0, sym rises ∙ c.if-not-columns_rise.false) in
     let r = ready in
     let t = c.total_cost in
     c.judge.ensures

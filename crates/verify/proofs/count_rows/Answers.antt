@@ -13,19 +13,19 @@ overflow_cast-row c = omega (arith, c.type_inv.body c.loop-k.k)
 pub overflow_sub-row : goal.overflow_sub-row
 overflow_sub-row c =
     let row_range : let r = get_or c.args.body.now c.loop-k.k 0 in
-        (1 ≤ r) × (r ≤ 64) = rising-at 0 64 _ _ c.requires.covered_len.1 c.loop-k-test.true in
+    (1 ≤ r) × (r ≤ 64) = rising-at 0 64 _ _ c.requires.covered_len.1 c.loop-k-test.true in
     row_range.0
 
 pub offset_bounds-covered-row : goal.offset_bounds-covered-row
 offset_bounds-covered-row c =
     let row_range : let r = get_or c.args.body.now c.loop-k.k 0 in
-        (1 ≤ r) × (r ≤ 64) = rising-at 0 64 _ _ c.requires.covered_len.1 c.loop-k-test.true in
+    (1 ≤ r) × (r ≤ 64) = rising-at 0 64 _ _ c.requires.covered_len.1 c.loop-k-test.true in
     omega (arith, row_range.1)
 
 pub bounds-covered-row : goal.bounds-covered-row
 bounds-covered-row c =
     let row_range : let r = get_or c.args.body.now c.loop-k.k 0 in
-        (1 ≤ r) × (r ≤ 64) = rising-at 0 64 _ _ c.requires.covered_len.1 c.loop-k-test.true in
+    (1 ≤ r) × (r ≤ 64) = rising-at 0 64 _ _ c.requires.covered_len.1 c.loop-k-test.true in
     omega (arith, row_range.1)
 
 pub overflow_add-covered : goal.overflow_add-covered
@@ -34,7 +34,7 @@ overflow_add-covered c = omega (arith, c.loop-k.invariant.room (get_or c.args.bo
 pub bounds-covered-row-in-loop-k : goal.bounds-covered-row-in-loop-k
 bounds-covered-row-in-loop-k c =
     let row_range : let r = get_or c.args.body.now c.loop-k.k 0 in
-        (1 ≤ r) × (r ≤ 64) = rising-at 0 64 _ _ c.requires.covered_len.1 c.loop-k-test.true in
+    (1 ≤ r) × (r ≤ 64) = rising-at 0 64 _ _ c.requires.covered_len.1 c.loop-k-test.true in
     omega (arith, row_range.1)
 
 pub loop-k-preserved : goal.loop-k-preserved

@@ -19,13 +19,13 @@ entry_at-e-requires c = entry-room _ _ c.loop-k.invariant.offer _ c.loop-k-test.
 pub overflow_add-end : goal.overflow_add-end
 overflow_add-end c =
     let column : let a = c.args in
-        ColumnAt a.file.now (get_or a.columns.now c.loop-k.k 0 - 1) c.entry_at-e.result = column_here _ _ c.loop-k.invariant.offer _ c.loop-k-test.true _ c.entry_at-e.ensures in
+    ColumnAt a.file.now (get_or a.columns.now c.loop-k.k 0 - 1) c.entry_at-e.result = column_here _ _ c.loop-k.invariant.offer _ c.loop-k-test.true _ c.entry_at-e.ensures in
     omega (arith, column.inside)
 
 pub slice_bounds-count_rows-end : goal.slice_bounds-count_rows-end
 slice_bounds-count_rows-end c =
     let column : let a = c.args in
-        ColumnAt a.file.now (get_or a.columns.now c.loop-k.k 0 - 1) c.entry_at-e.result = column_here _ _ c.loop-k.invariant.offer _ c.loop-k-test.true _ c.entry_at-e.ensures in
+    ColumnAt a.file.now (get_or a.columns.now c.loop-k.k 0 - 1) c.entry_at-e.result = column_here _ _ c.loop-k.invariant.offer _ c.loop-k-test.true _ c.entry_at-e.ensures in
     omega (arith, column.inside)
 
 pub count_rows-requires : goal.count_rows-requires

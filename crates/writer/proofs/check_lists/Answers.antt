@@ -29,8 +29,8 @@ unfolding contents_outcome
 check_numbers-requires c =
     let counted : let a = c.args in counts_fault a.rows (length a.costs.now) ≡ fine = passed c.check_counts-counts.ensures c.in_default.is in
     let totalled : (total : ℕ) → c.check_columns-columns.result ≡ Rows total →
-        let a = c.args in
-        (columns_fault a.edition a.rows 0 a.costs.now a.lengths.now ≡ fine) × (sum a.lengths.now ≡ total) = λ total e. accepts _ _ _ (sym (rw e at c.check_columns-columns.ensures)) in
+    let a = c.args in
+    (columns_fault a.edition a.rows 0 a.costs.now a.lengths.now ≡ fine) × (sum a.lengths.now ≡ total) = λ total e. accepts _ _ _ (sym (rw e at c.check_columns-columns.ensures)) in
     let a = totalled _ c.in-Rows.is in
     let n = (counts-fine _ _ counted).columns.most in record { columns_bound = (n, omega (arith, sym a.1, columns-small _ _ 0 _ _ c.if-lengths-costs.false (omega arith) a.0)); total_value = sym a.1 }
 
@@ -46,7 +46,7 @@ unfolding contents_outcome
 returns-in-Rows c =
     let counted : let a = c.args in counts_fault a.rows (length a.costs.now) ≡ fine = passed c.check_counts-counts.ensures c.in_default.is in
     let totalled : (total : ℕ) → c.check_columns-columns.result ≡ Rows total →
-        let a = c.args in
-        (columns_fault a.edition a.rows 0 a.costs.now a.lengths.now ≡ fine) × (sum a.lengths.now ≡ total) = λ total e. accepts _ _ _ (sym (rw e at c.check_columns-columns.ensures)) in
+    let a = c.args in
+    (columns_fault a.edition a.rows 0 a.costs.now a.lengths.now ≡ fine) × (sum a.lengths.now ≡ total) = λ total e. accepts _ _ _ (sym (rw e at c.check_columns-columns.ensures)) in
     let a = totalled _ c.in-Rows.is in
     rw (sym a.1) at c.check_numbers.ensures ∙ columns-pass _ _ _ _ _ counted c.if-lengths-costs.false a.0

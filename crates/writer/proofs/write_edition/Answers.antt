@@ -14,15 +14,15 @@ pub returns-then-out-size : goal.returns-then-out-size
 unfolding write_outcome filled
 returns-then-out-size c =
     let passed : (size : ℕ) → c.check_lists-tested.result ≡ Written size →
-        let a = c.args in
-        accepted size ≡ tested (lists a.edition a.rows a.costs.now a.lengths.now a.numbers.now) = λ size e. rw e at c.check_lists-tested.ensures in record { result_value = writing-short _ _ _ (passed _ c.in-Written.is) c.if-out-size.true; out_after = refl }
+    let a = c.args in
+    accepted size ≡ tested (lists a.edition a.rows a.costs.now a.lengths.now a.numbers.now) = λ size e. rw e at c.check_lists-tested.ensures in record { result_value = writing-short _ _ _ (passed _ c.in-Written.is) c.if-out-size.true; out_after = refl }
 
 pub put_file-requires : goal.put_file-requires
 unfolding write_outcome
 put_file-requires c =
     let passed : (size : ℕ) → c.check_lists-tested.result ≡ Written size →
-        let a = c.args in
-        accepted size ≡ tested (lists a.edition a.rows a.costs.now a.lengths.now a.numbers.now) = λ size e. rw e at c.check_lists-tested.ensures in
+    let a = c.args in
+    accepted size ≡ tested (lists a.edition a.rows a.costs.now a.lengths.now a.numbers.now) = λ size e. rw e at c.check_lists-tested.ensures in
     let e = passed _ c.in-Written.is in record { numbers_value = writing-fine _ 0 _ e; numbers_in_bounds = omega (arith, writing-size _ 0 _ e, c.if-out-size.false) }
 
 pub returns-in-Refused : goal.returns-in-Refused
@@ -33,5 +33,5 @@ pub returns-else-out-size : goal.returns-else-out-size
 unfolding write_outcome filled
 returns-else-out-size c =
     let passed : (size : ℕ) → c.check_lists-tested.result ≡ Written size →
-        let a = c.args in
-        accepted size ≡ tested (lists a.edition a.rows a.costs.now a.lengths.now a.numbers.now) = λ size e. rw e at c.check_lists-tested.ensures in record { result_value = writing-done _ _ _ (passed _ c.in-Written.is) c.if-out-size.false; out_after = c.put_file.ensures }
+    let a = c.args in
+    accepted size ≡ tested (lists a.edition a.rows a.costs.now a.lengths.now a.numbers.now) = λ size e. rw e at c.check_lists-tested.ensures in record { result_value = writing-done _ _ _ (passed _ c.in-Written.is) c.if-out-size.false; out_after = c.put_file.ensures }
