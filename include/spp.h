@@ -1,7 +1,7 @@
 /*
  * Crew plans from a duty file, and crews onto vessels: the C interface of the engine.
  *
- * Link with target/staticlib/libspp.a, which `rt staticlib spp` builds. Call the functions at the end of this file, spp_read to
+ * Link with target/staticlib/libspp.a, which tests/staticlib builds. Call the functions at the end of this file, spp_read to
  * spp_desk_reply. They refuse lists of which any two overlap, two that are only read among them, and null pointers, before the engine is
  * entered; the functions spp_core_.. are the engine itself, which takes for granted that no two lists overlap and that no pointer is
  * null.
