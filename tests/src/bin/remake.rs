@@ -3,7 +3,7 @@
 //!     cargo run --release --manifest-path tests/Cargo.toml --bin remake search_files
 //!
 //! `file_cases`, `reduce_files`, `search_files` and `solve` print the output of the gate's program of that name, crates/NAME/stdout;
-//! `files`, `orders`, `cases`, `longestCases`, `requestCases` and `pairCases` the values of that table in crates/rules/specs; `samples` the
+//! `files`, `orders`, `cases`, `longest_cases`, `request_cases` and `pair_cases` the values of that table in crates/rules/specs; `samples` the
 //! lines of samples/lines.txt, by name.
 
 use std::process::ExitCode;
@@ -31,7 +31,7 @@ fn main() -> ExitCode {
     let words: Vec<String> = std::env::args().skip(1).collect();
     let [name] = &words[..] else {
         eprintln!(
-            "usage: remake file_cases|reduce_files|search_files|solve|files|orders|cases|longestCases|requestCases|pairCases|samples"
+            "usage: remake file_cases|reduce_files|search_files|solve|files|orders|cases|longest_cases|request_cases|pair_cases|samples"
         );
         return ExitCode::FAILURE;
     };

@@ -1,7 +1,7 @@
 //! The tables of the rules, which are proved there by computing. A table is read as `NAME : QUESTIONS ≡ VALUES`, with the questions
 //! `order INSTANCE`, `solved INSTANCE LIMIT` for the sum, or `found INSTANCE LIMIT` for the longest duty; with lists of agreed and absent
-//! columns `solvedWith INSTANCE LIMIT AGREED ABSENT` and `foundWith INSTANCE LIMIT AGREED ABSENT`, and with pairs of columns besides
-//! `solvedPaired INSTANCE LIMIT AGREED ABSENT PAIRS` and `foundPaired INSTANCE LIMIT AGREED ABSENT PAIRS`. Of the rest of these files only
+//! columns `solved_with INSTANCE LIMIT AGREED ABSENT` and `found_with INSTANCE LIMIT AGREED ABSENT`, and with pairs of columns besides
+//! `solved_paired INSTANCE LIMIT AGREED ABSENT PAIRS` and `found_paired INSTANCE LIMIT AGREED ABSENT PAIRS`. Of the rest of these files only
 //! instances and numbers are read.
 
 use super::names::{numbers, Names};
@@ -18,9 +18,9 @@ use crate::requests::Requests;
 const TABLES: [(&str, &[&str]); 5] = [
     ("crates/rules/specs/Files.antt", &["files"]),
     ("crates/rules/specs/Cases.antt", &["orders", "cases"]),
-    ("crates/rules/specs/LongestCases.antt", &["longestCases"]),
-    ("crates/rules/specs/RequestCases.antt", &["requestCases"]),
-    ("crates/rules/specs/PairCases.antt", &["pairCases"]),
+    ("crates/rules/specs/LongestCases.antt", &["longest_cases"]),
+    ("crates/rules/specs/RequestCases.antt", &["request_cases"]),
+    ("crates/rules/specs/PairCases.antt", &["pair_cases"]),
 ];
 
 /// What a place of a table asks of an instance.
@@ -109,10 +109,10 @@ fn question(term: &Term, names: &Names) -> Option<(String, Question)> {
         (["order", _], []) => Question::Order,
         (["solved", _, limit], []) => search(Goal::Sum, limit, [&[]; 3])?,
         (["found", _, limit], []) => search(Goal::Longest, limit, [&[]; 3])?,
-        (["solvedWith", _, limit], [agreed, absent]) => search(Goal::Sum, limit, [agreed, absent, &[]])?,
-        (["foundWith", _, limit], [agreed, absent]) => search(Goal::Longest, limit, [agreed, absent, &[]])?,
-        (["solvedPaired", _, limit], [agreed, absent, pairs]) => search(Goal::Sum, limit, [agreed, absent, pairs])?,
-        (["foundPaired", _, limit], [agreed, absent, pairs]) => search(Goal::Longest, limit, [agreed, absent, pairs])?,
+        (["solved_with", _, limit], [agreed, absent]) => search(Goal::Sum, limit, [agreed, absent, &[]])?,
+        (["found_with", _, limit], [agreed, absent]) => search(Goal::Longest, limit, [agreed, absent, &[]])?,
+        (["solved_paired", _, limit], [agreed, absent, pairs]) => search(Goal::Sum, limit, [agreed, absent, pairs])?,
+        (["found_paired", _, limit], [agreed, absent, pairs]) => search(Goal::Longest, limit, [agreed, absent, pairs])?,
         _ => return None,
     };
     Some((words[1].to_string(), asked))
