@@ -1,10 +1,11 @@
 -- The search call's answer in 01's terms, by the prices in the file, and the plan as its list shows it.
-use Rattle.std.specs.Prelude.{Bool, true, false, List, [], map, ℕ, suc, ℤ, pos, ◌-ℤ◌, length, take}
+use Rattle.std.specs.Prelude.{Bool, true, false, List, [], map, ℕ, suc, ℤ, pos, ◌-ℤ◌, length, take, Result, Ok, Err}
 use Rattle.refusals.specs.Refusals.{Outcome, accepted, refused, number_of}
 use Rattle.rules.specs.Search.{Incumbent, nothing, plan, Answer, best, none, stopped}
 use Rattle.rules.specs.Requests.{columns_of}
+use Rattle.refusals.specs.declared.Refusal.{Refusal}
 use Rattle.answer.specs.declared.SearchAnswer.{SearchAnswer}
-use Rattle.answer.specs.declared.SearchAnswer.TheVariants.{Best, None, Stopped, StoppedWith, Refused}
+use Rattle.answer.specs.declared.SearchAnswer.TheVariants.{Best, None, Stopped, StoppedWith}
 
 -- a plan's price and number of duties, if there is a plan
 pub data Shown : Type 0 where
@@ -17,13 +18,17 @@ pub data Values : Type 0 where
   told_none : ℕ → Values  -- nodes
   told_stopped : ℤ → ℕ → Shown → Values  -- root floor, nodes, and the kept plan's price and number of duties if there is one
 
+-- what an answer of the code says, in these terms
+unfoldable pub told : SearchAnswer → Values
+told (Best f) = told_best f.cost f.bound f.nodes f.columns
+told (None n) = told_none n
+told (Stopped h) = told_stopped h.bound h.nodes no_plan
+told (StoppedWith f) = told_stopped f.bound f.nodes (priced f.cost f.columns)
+
 -- what the call answers: these values, or a refusal with its number
-unfoldable pub search_outcome : SearchAnswer → Outcome Values
-search_outcome (Best f) = accepted (told_best f.cost f.bound f.nodes f.columns)
-search_outcome (None n) = accepted (told_none n)
-search_outcome (Stopped h) = accepted (told_stopped h.bound h.nodes no_plan)
-search_outcome (StoppedWith f) = accepted (told_stopped f.bound f.nodes (priced f.cost f.columns))
-search_outcome (Refused why) = refused (number_of why)
+unfoldable pub search_outcome : Result SearchAnswer Refusal → Outcome Values
+search_outcome (Ok a) = accepted (told a)
+search_outcome (Err why) = refused (number_of why)
 
 -- a cost or a bound of the rules, less what the search added to the prices in the file (02, P10)
 abbrev pub lowered : ℕ → ℕ → ℤ

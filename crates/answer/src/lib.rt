@@ -2,14 +2,13 @@
 #![tactic(auto)]
 
 ghost use Rattle.std.specs.Prelude.{◌≡◌, map, suc, length};
-ghost use Rattle.refusals.specs.Refusals.{accepted, front};
+ghost use Rattle.refusals.specs.Refusals.{front};
 ghost use Rattle.rules.specs.Search.{shown_by};
 ghost use Rattle.tally.specs.Tally.{taken_in};
 ghost use Rattle.solver.specs.Solved.{solved_answer};
-ghost use Rattle.answer.specs.Answer.{search_outcome, lowered, values_of, plan_numbers};
+ghost use Rattle.answer.specs.Answer.{told, lowered, values_of, plan_numbers};
 ghost use Rattle.answer.specs.Plan.{PlanFits, PlanRoom};
 
-use refusals::Refusal;
 use solver::Solved;
 
 // A plan that is shown.
@@ -43,7 +42,6 @@ pub enum SearchAnswer {
     Stopped(Halted),
     // Stopped at the node limit, with this plan kept.
     StoppedWith(Found),
-    Refused(Refusal),
 }
 
 // Writes the taken ones of the first columns, numbered from 1, at the front of a list, and gives how many they are.
@@ -53,12 +51,9 @@ pub fn put_plan(marks: &[u8; 256], columns: usize, plan: &mut [u16]) -> usize
     ensures plan_after { plan.new ≡ front (map suc (taken_in columns marks.now)) plan.old }
 {
     let mut count = 0;
-    let mut j = 0;
-    while j < columns {
-        let column = j;
-        j += 1;
-        if marks[column] == 2 {
-            plan[count] = j as u16;
+    for j in 0..columns {
+        if marks[j] == 2 {
+            plan[count] = (j + 1) as u16;
             count += 1;
         }
     }
@@ -69,14 +64,14 @@ pub fn put_plan(marks: &[u8; 256], columns: usize, plan: &mut [u16]) -> usize
 fn lowered(cost: u32, added: u32) -> i64
     ensures { result ≡ lowered added cost }
 {
-    (cost as i64) - (added as i64)
+    i64::from(cost) - i64::from(added)
 }
 
 // The answer of a search that has ended, where it added so much to the price of every plan, with the plan that it shows at the front of a
 // list.
 pub fn give(done: Solved, columns: usize, added: u32, plan: &mut [u16]) -> SearchAnswer
     requires { PlanFits done columns (length plan.old) }
-    ensures result_value { search_outcome result ≡ accepted (values_of added (solved_answer columns done)) }
+    ensures result_value { told result ≡ values_of added (solved_answer columns done) }
     ensures plan_after { plan.new ≡ front (plan_numbers (shown_by (solved_answer columns done))) plan.old }
 {
     let tally = done.tally;
@@ -84,7 +79,7 @@ pub fn give(done: Solved, columns: usize, added: u32, plan: &mut [u16]) -> Searc
     if !tally.kept {
         if tally.stopped {
             return SearchAnswer::Stopped(Halted {
-                bound: bound,
+                bound,
                 nodes: tally.nodes,
             });
         }
@@ -93,7 +88,7 @@ pub fn give(done: Solved, columns: usize, added: u32, plan: &mut [u16]) -> Searc
     let count = put_plan(&tally.plan, columns, plan);
     let found = Found {
         cost: lowered(tally.cost, added),
-        bound: bound,
+        bound,
         nodes: tally.nodes,
         columns: count,
     };

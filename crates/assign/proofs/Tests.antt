@@ -1,9 +1,11 @@
--- The tests: what is left to test gives the whole, and what it means that all pass.
-use mathlib.Core.Path.{◌≡◌, refl}
+-- The tests: a test of each element of a front of a list, and what it means that all pass.
+use mathlib.Core.Path.{◌≡◌, refl, ap}
 use mathlib.Core.Bool.{Bool, true, false, ◌&&◌, and-eq-true_iff}
 use mathlib.Core.List.{List}
-use Prim.Native.Nat.{ℕ, zero, suc, ◌+◌, ◌-◌, ◌≤◌, ◌<◌}
-use native.Mathlib.Numerals.{add-one}
+use lib.ListN.{length, get_or, take, drop}
+use Rattle.std.specs.List.{list_all}
+use Rattle.std.proofs.Math.Seq.{drop-cons}
+use Prim.Native.Nat.{ℕ, zero, suc, ◌+◌, ◌≤◌, ◌<◌}
 use native.Mathlib.Omega.{arith}
 use lib.Dec.{eqb, leb}
 use borrow.Author.Tests.{eqb-true, eqb-false, leb-true, le-leb, lt-leb}
@@ -13,24 +15,17 @@ use Rattle.assignments.specs.Assignment.{cost}
 use Rattle.vessel_sets.specs.Table.{Sized}
 use Rattle.assign.specs.Answer.{all_of, row_fits, costs_fit, sizes_fault, table_fault}
 
--- a test of each place
-module _ (f : ℕ → Bool) (n : ℕ) where
-  pub all_start : all_of f (n - 0) 0 ≡ all_of f n 0
-  all_start = let e : n - 0 ≡ n = omega arith in rw e
-
-  all_step : (j : ℕ) → j < n → all_of f (n - j) j ≡ (f j && all_of f (n - (j + 1)) (j + 1))
+-- a test of each element of a list's front
+module _ {A : Type 0} (test : A → Bool) (d : A) (xs : List A) where
+  all_from : (n j : ℕ) → j + n ≤ length xs → list_all test (take n (drop j xs)) ≡ all_of (λ k. test (get_or xs k d)) n j
   unfolding all_of
-  all_step j h = let e : n - j ≡ suc (n - (j + 1)) = omega arith in rw (e, add-one)
+  all_from zero j h = refl
+  all_from (suc n) j h =
+      let l : j < length xs = omega arith in
+      rw (drop-cons xs j d l) (ap (λ b. test (get_or xs j d) && b) (all_from n (suc j) (omega arith)))
 
-  pub all_fails : (j : ℕ) → j < n → f j ≡ false → false ≡ all_of f (n - j) j
-  all_fails j h e = rw (all_step j h, e)
-
-  pub all_next : (j : ℕ) → j < n → f j ≡ true → all_of f (n - (j + 1)) (j + 1) ≡ all_of f (n - j) j
-  all_next j h e = rw (all_step j h, e)
-
-  pub all_end : (j : ℕ) → n ≤ j → true ≡ all_of f (n - j) j
-  unfolding all_of
-  all_end j h = let e : n - j ≡ 0 = omega arith in rw e
+  pub all_front : (n : ℕ) → n ≤ length xs → list_all test (take n xs) ≡ all_of (λ k. test (get_or xs k d)) n 0
+  all_front n h = all_from n 0 (omega arith)
 
 all_at : (f : ℕ → Bool) (v j c : ℕ) → all_of f v j ≡ true → j ≤ c → c < j + v → f c ≡ true
 unfolding all_of

@@ -1,10 +1,9 @@
 -- The assigning call (02, P5): its tests, its answer in 02's terms, and what its list holds.
-use Rattle.std.specs.Prelude.{Bool, true, ◌&&◌, List, [], map, ℕ, zero, suc, leb}
+use Rattle.std.specs.Prelude.{Bool, true, ◌&&◌, List, [], map, ℕ, zero, suc, leb, Option, Some, None, Result, Ok, Err}
+use Rattle.refusals.specs.declared.Refusal.{Refusal}
 use Rattle.refusals.specs.Refusals.{Fault, ask, ◌then◌, Outcome, accepted, refused, unless, number_of}
 use Rattle.assignments.specs.Assignment.{cost}
 use Rattle.assignments.specs.Cheapest.{Found, nothing, found, best}
-use Rattle.assign.specs.declared.AssignAnswer.{AssignAnswer}
-use Rattle.assign.specs.declared.AssignAnswer.TheVariants.{Best, None, Refused}
 
 -- the values that 02 names: the least total, or none
 pub data Values : Type 0 where
@@ -12,10 +11,10 @@ pub data Values : Type 0 where
   told_none : Values
 
 -- what the call answers: these values, or a refusal with its number
-unfoldable pub assign_outcome : AssignAnswer → Outcome Values
-assign_outcome (Best x) = accepted (told_best x)
-assign_outcome None = accepted told_none
-assign_outcome (Refused why) = refused (number_of why)
+unfoldable pub assign_outcome : Result (Option ℕ) Refusal → Outcome Values
+assign_outcome (Ok (Some x)) = accepted (told_best x)
+assign_outcome (Ok None) = accepted told_none
+assign_outcome (Err why) = refused (number_of why)
 
 -- the cheapest assignment as values, and as the vessels that are written, counted from 1
 unfoldable pub values_of : Found → Values

@@ -1,14 +1,13 @@
 -- A row's candidate is the statistics of its own columns: its free columns are the free ones among them.
 use mathlib.Core.Path.{◌≡◌, ap, sym, ◌∙◌}
 use mathlib.Core.List.{List, []}
-use Prim.Native.Nat.{ℕ, ◌<◌}
-use lib.ListN.{length, get_or}
+use Prim.Native.Nat.{ℕ}
 use native.Mathlib.Omega.{arith}
 use Rattle.node.specs.declared.Node.{Node}
 use Rattle.node.specs.Matrix.{Matrix, span}
 use Rattle.node.specs.Node.{cost_at}
 use Rattle.rules.specs.Reduce.{least_of, candidate}
-use Rattle.node.specs.Stored.{matrix_in, Kept, HasColumn, row_columns}
+use Rattle.node.specs.Stored.{matrix_in, Kept, row_columns}
 use Rattle.node.proofs.Parts.{row-column, row-short, free-row}
 use Rattle.node.specs.View.{view}
 use Rattle.candidates.specs.Row.{tally_at, tally, tally_in, Listed}
@@ -25,11 +24,3 @@ unfolding tally_at candidate least_of
 candidate-is p cost column row i e =
     let s : Node = view cost column [] in
     ap (λ (r : List ℕ). tally_in p cost column r i) e ∙ ap (λ (r : List ℕ). tally (cost_at s) (span p) r i) (sym (free-row p s i))
-
--- a column of the row that is read
-module _ (l row : List ℕ) (t : Listed l row) (k : ℕ) (h : k < length row) where
-  pub listed-column : HasColumn l (get_or row k 0)
-  listed-column = record { kept = t.has.kept; column = t.has.inside k h }
-
-  pub listed-low : get_or row k 0 < 256
-  listed-low = omega (arith, t.has.inside k h, t.has.kept.small.fits.wide)

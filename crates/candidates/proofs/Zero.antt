@@ -1,33 +1,33 @@
 -- A free column at cost 0 is found where it stands, or none is left to be seen; a row that has one has the least cost 0.
-use mathlib.Core.Path.{◌≡◌, ap, sym}
-use mathlib.Core.Bool.{Bool, true, false, not, false≢true}
+use mathlib.Core.Path.{◌≡◌, refl, sym}
+use mathlib.Core.Bool.{Bool, true, false, cond, ◌||◌, not, false≢true}
 use mathlib.Core.List.{List, [], ◌∷◌}
-use Prim.Native.Nat.{ℕ, ◌≤◌, ◌<◌}
+use Prim.Native.Nat.{ℕ}
 use native.Mathlib.Omega.{arith}
-use lib.ListN.{length, get_or}
+use lib.ListN.{get_or}
 use lib.Dec.{eqb}
 use borrow.Author.Tests.{eqb-true}
+use Rattle.std.specs.List.{list_any}
 use Rattle.node.specs.Lists.{keep, is_empty, member}
 use Rattle.node.specs.Matrix.{Matrix}
 use Rattle.node.specs.Stored.{row_columns}
 use Rattle.node.specs.Node.{is_free, free_of}
 use Rattle.rules.specs.Reduce.{least_of}
 use Rattle.node.proofs.Members.{and_both, here, kept, member-keep, least_le}
-use Rattle.node.proofs.Passes.{Seeking, seeking_in, seeking_end}
 use Rattle.node.proofs.Parts.{free-row}
 use Rattle.node.specs.View.{view}
 use Rattle.candidates.specs.Row.{zero_in}
 use Rattle.candidates.specs.Best.{has_zero}
 
--- at place k, with none so far that passes a test
-module _ (t : ℕ → Bool) (js : List ℕ) (k : ℕ) (w : Seeking t js k) where
-  pub one_found : k < length js → t (get_or js k 0) ≡ true → true ≡ not (is_empty (keep t js))
-  unfolding is_empty
-  one_found l h = ap (λ (m : List ℕ). not (is_empty m)) (seeking_in t js k w l h)
-
-  pub none_found : length js ≤ k → false ≡ not (is_empty (keep t js))
-  unfolding is_empty
-  none_found l = ap (λ (m : List ℕ). not (is_empty m)) (seeking_end t js k w l)
+-- one of some columns passes a test where those that pass are not none
+pub any_zero : (t : ℕ → Bool) (js : List ℕ) → list_any t js ≡ not (is_empty (keep t js))
+unfolding is_empty keep
+any_zero t [] = refl
+any_zero t (j ∷ js) = go (t j) (any_zero t js)
+  where
+    go : (b : Bool) → list_any t js ≡ not (is_empty (keep t js)) → (b || list_any t js) ≡ not (is_empty (cond b (j ∷ keep t js) (keep t js)))
+    go true e = refl
+    go false e = e
 
 -- the first of the columns that pass a test
 some : (ks : List ℕ) → true ≡ not (is_empty ks) → (j : ℕ) × (member j ks ≡ true)

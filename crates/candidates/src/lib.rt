@@ -21,44 +21,31 @@ fn join(a: Candidate, cost: u32, size: u32) -> Candidate
         return Candidate {
             free: 1,
             ties: 1,
-            cost: cost,
+            cost,
             short: size,
-            row: a.row,
+            ..a
         };
     }
     if cost < a.cost {
         return Candidate {
             free: a.free + 1,
             ties: 1,
-            cost: cost,
+            cost,
             short: size,
-            row: a.row,
+            ..a
         };
     }
     if cost != a.cost {
         return Candidate {
             free: a.free + 1,
-            ties: a.ties,
-            cost: a.cost,
-            short: a.short,
-            row: a.row,
-        };
-    }
-    if a.short <= size {
-        return Candidate {
-            free: a.free + 1,
-            ties: a.ties + 1,
-            cost: a.cost,
-            short: a.short,
-            row: a.row,
+            ..a
         };
     }
     Candidate {
         free: a.free + 1,
         ties: a.ties + 1,
-        cost: a.cost,
-        short: size,
-        row: a.row,
+        short: a.short.min(size),
+        ..a
     }
 }
 
@@ -80,13 +67,10 @@ fn statistics(
         short: 0,
         row: i,
     };
-    let mut k = 0;
-    while k < row.len() {
-        let j = row[k] as usize;
-        k += 1;
+    for &j in row {
+        let j = usize::from(j);
         if column[j] == 1 {
-            let size = column_size(matrix, j);
-            found = join(found, cost[j], size);
+            found = join(found, cost[j], column_size(matrix, j));
         }
     }
     found
@@ -97,8 +81,7 @@ pub fn row_candidate(cost: &[u32; 256], column: &[u8; 256], matrix: &[u16], i: u
     requires { HasRow matrix.now i }
     ensures { result ≡ candidate (matrix_in matrix.now) (view cost.now column.now []) i }
 {
-    let row = row_part(matrix, i);
-    statistics(cost, column, matrix, row, i as u32)
+    statistics(cost, column, matrix, row_part(matrix, i), i as u32)
 }
 
 // The better of the best so far and one more row: a row with cost 0 is no candidate.
@@ -121,10 +104,7 @@ fn better_of(a: Candidate, b: Candidate) -> Candidate
 pub fn is_zero(mark: u8, cost: u32) -> bool
     ensures { result ≡ (eqb mark 1 && eqb cost 0) }
 {
-    if mark != 1 {
-        return false;
-    }
-    cost == 0
+    mark == 1 && cost == 0
 }
 
 // Whether one of some columns is free and at cost 0.
@@ -132,15 +112,9 @@ fn has_zero(cost: &[u32; 256], column: &[u8; 256], columns: &[u16]) -> bool
     requires { Columns columns.now }
     ensures { result ≡ has_zero cost.now column.now columns.now }
 {
-    let mut k = 0;
-    while k < columns.len() {
-        let found = columns[k] as usize;
-        k += 1;
-        if is_zero(column[found], cost[found]) {
-            return true;
-        }
-    }
-    false
+    columns
+        .iter()
+        .any(|&j| is_zero(column[usize::from(j)], cost[usize::from(j)]))
 }
 
 // The row that the next reducing step uses, in one pass over the rows marked; its cost is 0 where there is no candidate. A row with a
@@ -154,7 +128,6 @@ pub fn best_candidate<'a>(
     requires { Kept matrix.now }
     ensures { Chooses (matrix_in matrix.now) cost.now column.now row.old row.new result }
 {
-    let rows = row_count(matrix);
     let mut best = Candidate {
         free: 0,
         ties: 0,
@@ -162,17 +135,12 @@ pub fn best_candidate<'a>(
         short: 0,
         row: 0,
     };
-    let mut i = 0;
-    while i < rows {
-        let at = i;
-        i += 1;
-        if row[at] == 1 {
-            let columns = row_part(matrix, at);
-            if has_zero(cost, column, columns) {
-                row[at] = 0;
+    for i in 0..row_count(matrix) {
+        if row[i] == 1 {
+            if has_zero(cost, column, row_part(matrix, i)) {
+                row[i] = 0;
             } else {
-                let found = row_candidate(cost, column, matrix, at);
-                best = better_of(best, found);
+                best = better_of(best, row_candidate(cost, column, matrix, i));
             }
         }
     }

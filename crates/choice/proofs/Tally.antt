@@ -10,7 +10,7 @@ use borrow.Author.Tests.{eq-eqb, ne_eqb, lt-ltb, le-ltb, ltb-true, eqb-true, eqb
 use Rattle.node.specs.Lists.{keep, member, least, least_from}
 use Rattle.node.proofs.Members.{kept, least_at, keep-short}
 use Rattle.node.proofs.Loops.{keep_append, keep-more, keep_same}
-use Rattle.node.proofs.Passes.{Telling, telling_start, telling_few, telling_in, telling_out, telling_end}
+use Rattle.node.proofs.Passes.{Telling, telling_start, telling_few, telling_in, telling_out}
 use Rattle.candidates.proofs.Keep.{least_more}
 use Rattle.choice.specs.declared.BranchRow.{BranchRow}
 use Rattle.choice.specs.Row.{tally, lower_penalty, joined, tally_in}
@@ -114,6 +114,3 @@ module _ (cost column row : List ℕ) (i : ℕ) (found : BranchRow) (k : ℕ) (w
       let n : length (keep z (keep t row)) ≡ length (keep z (keep t (take k row))) + length (keep z (keep t (drop k row))) =
       rw (e, keep_append z (keep t (take k row)) (keep t (drop k row)), length-append (keep z (keep t (take k row))) (keep z (keep t (drop k row)))) in
       rw w.so_far.is (omega arith)
-
-  pub tallying_end : length row ≤ k → found ≡ tally_in cost column row i
-  tallying_end h = telling_end _ _ row found k w.so_far h

@@ -16,6 +16,7 @@ pub struct BranchRow {
     // How many free columns at cost 0 the row has.
     pub zeros: u32,
     // The penalty: the least cost above 0 among its free columns. 0 where there is none: it is then above any number.
+    // No Option: penalty_at and what without_bound requires state it as a number.
     pub penalty: u32,
     // How many free columns the row has.
     pub free: u32,
@@ -30,32 +31,21 @@ fn lower_penalty(penalty: u32, cost: u32) -> u32
     if penalty == 0 {
         return cost;
     }
-    if penalty <= cost {
-        return penalty;
-    }
-    cost
+    penalty.min(cost)
 }
 
 // The statistics with one more free column, of a cost.
-fn join(a: BranchRow, cost: u32) -> BranchRow
+fn join(mut a: BranchRow, cost: u32) -> BranchRow
     requires { (a.free < 4096) × (a.zeros ≤ a.free) }
     ensures { result ≡ joined a cost }
 {
+    a.free += 1;
     if cost == 0 {
-        return BranchRow {
-            zeros: a.zeros + 1,
-            penalty: a.penalty,
-            free: a.free + 1,
-            row: a.row,
-        };
+        a.zeros += 1;
+    } else {
+        a.penalty = lower_penalty(a.penalty, cost);
     }
-    let penalty = lower_penalty(a.penalty, cost);
-    BranchRow {
-        zeros: a.zeros,
-        penalty: penalty,
-        free: a.free + 1,
-        row: a.row,
-    }
+    a
 }
 
 // Whether penalty a is above penalty b.
@@ -105,12 +95,9 @@ fn better_of(
         free: 0,
         row: i,
     };
-    let mut k = 0;
-    while k < row.len() {
-        let j = row[k] as usize;
-        k += 1;
-        if column[j] == 1 {
-            found = join(found, cost[j]);
+    for &j in row {
+        if column[j as usize] == 1 {
+            found = join(found, cost[j as usize]);
             if best.zeros < found.zeros {
                 return best;
             }
@@ -154,12 +141,9 @@ pub fn branch_row<'a>(
         free: 0,
         row: 0,
     };
-    let mut i = 0;
-    while i < rows {
-        let at = i;
-        i += 1;
-        if row[at] == 1 {
-            best = better_row(cost, column, matrix, at, best);
+    for i in 0..rows {
+        if row[i] == 1 {
+            best = better_row(cost, column, matrix, i, best);
         }
     }
     best

@@ -6,6 +6,7 @@ use mathlib.Core.List.{List, [], ◌∷◌}
 use Prim.Native.Nat.{ℕ, ◌*◌, ◌<◌}
 use native.Mathlib.Nat.{mul-zero}
 use native.Mathlib.Omega.{arith}
+use Rattle.std.proofs.Common.{Some}
 use lib.ListN.{length}
 use lib.Dec.{eqb}
 use borrow.Author.Tests.{lt-ltb}
@@ -74,11 +75,11 @@ column_from_lem p s [] = refl
 column_from_lem p s (j ∷ js) = refl
 
 -- the one column at cost 0
-pub only-is : (p : Matrix) (s : Node) (js : List ℕ) (single : ℕ) → single ≡ only js → single < 256 → single ≡ column_from p s js
+pub only-is : (p : Matrix) (s : Node) (js : List ℕ) (single : ℕ) → Some single ≡ only js → single ≡ column_from p s js
 unfolding only best_in pick
-only-is p s [] single e h = absurd (omega arith)
-only-is p s (j ∷ []) single e h = e
-only-is p s (j ∷ (k ∷ ks)) single e h = absurd (omega arith)
+only-is p s [] single e = cc
+only-is p s (j ∷ []) single e = cc
+only-is p s (j ∷ (k ∷ ks)) single e = cc
 
 module _ (p : Matrix) (i : ℕ) (row : List ℕ) (is : row ≡ row_columns p i) where
   pub row_inside : InColumns p row

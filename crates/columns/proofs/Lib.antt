@@ -1,5 +1,4 @@
 mod Only
-mod Products
 mod Column
 mod Columns
 pub mod Picked

@@ -1,5 +1,5 @@
 -- The choice of the column (01, The tree: the least C / s) among the free columns of a row at cost 0.
-use Rattle.std.specs.Prelude.{◌≡◌, Bool, true, List, [], ◌∷◌, ℕ, ◌*◌, ◌≤◌, ◌<◌, ltb}
+use Rattle.std.specs.Prelude.{◌≡◌, Bool, true, List, [], ◌∷◌, Option, Some, None, ℕ, ◌*◌, ◌≤◌, ◌<◌, ltb}
 use Rattle.node.specs.declared.Node.{Node}
 use Rattle.node.specs.Lists.{keep, member}
 use Rattle.node.specs.Passes.{best_in}
@@ -33,11 +33,11 @@ best_column p s i = column_from p s (zeros (sum p) p s i)
 abbrev pub column_of : Matrix → List ℕ → List ℕ → List ℕ → ℕ
 column_of p cost column js = column_from p (view cost column []) (keep (zero_in cost column) js)
 
--- the one element of a list, and 256 where there is none or more than one
-unfoldable pub only : List ℕ → ℕ
-only [] = 256
-only (j ∷ []) = j
-only (j ∷ (k ∷ ks)) = 256
+-- the one element of a list that has just one
+unfoldable pub only : List ℕ → Option ℕ
+only [] = None
+only (j ∷ []) = Some j
+only (j ∷ (k ∷ ks)) = None
 
 -- columns of a matrix
 abbrev pub InColumns : Matrix → List ℕ → Type 0

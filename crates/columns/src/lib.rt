@@ -12,21 +12,19 @@ use candidates::is_zero;
 use node::{column_part, row_part};
 use sharing::count_sharing;
 
-// The one of some columns that is free and at cost 0, and 256 where none is or more than one.
-fn only_zero(cost: &[u32; 256], column: &[u8; 256], columns: &[u16]) -> usize
+// The one of some columns that is free and at cost 0, if just one is.
+fn only_zero(cost: &[u32; 256], column: &[u8; 256], columns: &[u16]) -> Option<usize>
     requires { Columns columns.now }
     ensures { result ≡ only (keep (zero_in cost.now column.now) columns.now) }
 {
-    let mut found = 256;
-    let mut k = 0;
-    while k < columns.len() {
-        let j = columns[k] as usize;
-        k += 1;
+    let mut found = None;
+    for &j in columns {
+        let j = usize::from(j);
         if is_zero(column[j], cost[j]) {
-            if found < 256 {
-                return 256;
+            if found.is_some() {
+                return None;
             }
-            found = j;
+            found = Some(j);
         }
     }
     found
@@ -54,11 +52,9 @@ fn column_statistics(
     ensures { result ≡ branch_column (matrix_in matrix.now) (view cost.now column.now []) j }
 {
     let body = column_part(matrix, j);
-    let share = count_sharing(cost, column, matrix, body);
-    let size = body.len() as u32;
     BranchColumn {
-        share: share,
-        size: size,
+        share: count_sharing(cost, column, matrix, body),
+        size: body.len() as u32,
         column: j,
     }
 }
@@ -71,7 +67,8 @@ pub fn column_precedes(a: BranchColumn, b: BranchColumn) -> bool
     a.share * b.size < b.share * a.size
 }
 
-// The column to branch on among some columns. Where none of them is free and at cost 0 the size is 0, which no column has.
+// The column to branch on among some columns. Where none of them is free and at cost 0 the size is 0, which no column has, as the
+// definition no_column states.
 fn column_in(cost: &[u32; 256], column: &[u8; 256], matrix: &[u16], columns: &[u16]) -> usize
     requires { Kept matrix.now × InColumns (matrix_in matrix.now) columns.now }
     ensures { result ≡ column_of (matrix_in matrix.now) cost.now column.now columns.now }
@@ -81,10 +78,8 @@ fn column_in(cost: &[u32; 256], column: &[u8; 256], matrix: &[u16], columns: &[u
         size: 0,
         column: 0,
     };
-    let mut k = 0;
-    while k < columns.len() {
-        let j = columns[k] as usize;
-        k += 1;
+    for &j in columns {
+        let j = usize::from(j);
         if is_zero(column[j], cost[j]) {
             let found = column_statistics(cost, column, matrix, j);
             if column_precedes(found, best) {
@@ -107,9 +102,8 @@ pub fn branch_column<'a>(
     ensures { result ≡ best_column (matrix_in matrix.now) (view cost.now column.now []) i }
 {
     let row = row_part(matrix, i);
-    let single = only_zero(cost, column, row);
-    if single < 256 {
-        return single;
+    match only_zero(cost, column, row) {
+        Some(j) => j,
+        None => column_in(cost, column, matrix, row),
     }
-    column_in(cost, column, matrix, row)
 }

@@ -23,14 +23,11 @@ pub fn move_rows(body: &[u8], by: u32, covered: &mut [u32; 64], off: &mut u32)
     requires { rising 0 64 body.now ≡ true }
     ensures { counts_of covered.new off.new ≡ rows_moved by body.now (counts_of covered.old off.old) }
 {
-    let mut k = 0;
-    while k < body.len() {
-        let i = body[k] as usize - 1;
+    for &row in body {
+        let i = row as usize - 1;
         let old = covered[i];
-        let new = std::num::wrapping_add_u32(old, by);
+        let new = old.wrapping_add(by);
         covered[i] = new;
-        let before = *off;
-        *off = std::num::wrapping_add_u32(before, off_change(old, new));
-        k += 1;
+        *off = off.wrapping_add(off_change(old, new));
     }
 }

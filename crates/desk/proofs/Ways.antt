@@ -1,34 +1,26 @@
--- The reply, the ways out of a step, and those out of making a desk empty.
-use mathlib.Core.Path.{◌≡◌, ap, ◌∙◌}
+-- The ways out of a step, and those out of making a desk empty.
+use mathlib.Core.Path.{◌≡◌, sym, ap, ◌∙◌}
 use mathlib.Core.Bool.{Bool, true, false, cond}
 use mathlib.Core.List.{List}
 use Prim.Native.Nat.{ℕ, ◌+◌, ◌-◌, ◌≤◌, ◌<◌}
 use native.Mathlib.Omega.{arith}
 use lib.Dec.{leb}
-use lib.IntN.{ℤ}
 use lib.ListN.{get_or, take, drop}
-use mir.Syntax.{w32}
-use mir.Val.{SFits, to_z, of_z}
-use mir.Facts.{to_z-of_z}
-use borrow.Author.Tests.{le-leb, lt-leb, leb-true, eq-eqb}
+use borrow.Author.Tests.{le-leb, lt-leb, leb-true}
 use Rattle.refusals.specs.Refusals.{fine, fault, accepted, refused, unless}
-use Rattle.refusals.proofs.Laws.{stops_at, goes_on, passes, fails, both, asked, unless-fine, unless-fault}
+use Rattle.refusals.proofs.Laws.{stops_at, goes_on, passes, fails, both, asked, accepts, unless-fine, unless-fault}
 use Rattle.node.proofs.Members.{and_both}
 use Rattle.dutyfile.specs.declared.Entry.{Entry}
-use Rattle.dutyfile.specs.File.{rows_in, columns_in, cost_of}
+use Rattle.dutyfile.specs.declared.Shape.{Shape}
+use Rattle.dutyfile.specs.File.{rows_in, columns_in, bodies_at, entry_of, cost_of, shape}
 use Rattle.dutyfile.specs.Faults.{rising, file_fault}
 use Rattle.dutyfile.proofs.Facts.{file-fine}
 use Rattle.dutyfile.proofs.Columns.{ColumnAt, column-at, body-rises, part_is}
 use Rattle.desk.specs.declared.Way.{Way}
-use Rattle.desk.specs.declared.ReplyAnswer.TheVariants.{Plan}
-use Rattle.desk.specs.Desk.{Desk, empty_desk, changes, moved, replying}
-use Rattle.desk.specs.Steps.{step_fault, changed, unchanged, stepping, after, moved_by, stepped, emptied}
+use Rattle.desk.specs.declared.Said.TheVariants.{Changed, Unchanged}
+use Rattle.desk.specs.Desk.{Desk, empty_desk, changes, moved}
+use Rattle.desk.specs.Steps.{step_fault, stepping, after, moved_by, stepped, emptied}
 use Rattle.desk.specs.Found.{Found}
-
--- the reply that is a plan
-pub reply_plan : (off : ℕ) (total : ℤ) → SFits w32 total → off ≡ 0 → Plan (to_z w32 (of_z w32 total)) ≡ replying off total
-unfolding replying
-reply_plan off total f e = simp (replying, eq-eqb _ _ e) (ap Plan (to_z-of_z f))
 
 -- the tests of a step
 module _ (file : List ℕ) (number : ℕ) where
@@ -68,16 +60,16 @@ module _ (way : Way) (file : List ℕ) (number : ℕ) (d : Desk) where
   step-refused k e = let s = refuses k e in (s, rw (← s))
 
   module _ (e : step_fault file number ≡ fine) where
-    says : (b : Bool) → changes way (get_or d.marks (number - 1) 0) ≡ b → accepted (cond b changed unchanged) ≡ stepping way file number d
+    says : (b : Bool) → changes way (get_or d.marks (number - 1) 0) ≡ b → accepted (cond b Changed Unchanged) ≡ stepping way file number d
     unfolding stepping
     says b c = rw c (unless-fine _ e)
 
-    pub step_idle : changes way (get_or d.marks (number - 1) 0) ≡ false → (accepted unchanged ≡ stepping way file number d) × (d ≡ stepped way file number d)
+    pub step_idle : changes way (get_or d.marks (number - 1) 0) ≡ false → (accepted Unchanged ≡ stepping way file number d) × (d ≡ stepped way file number d)
     unfolding stepped after
     step_idle c = let s = says false c in (s, rw (← s))
 
     pub step-done : (new : Desk) → changes way (get_or d.marks (number - 1) 0) ≡ true → new ≡ moved_by way file number d →
-        (accepted changed ≡ stepping way file number d) × (new ≡ stepped way file number d)
+        (accepted Changed ≡ stepping way file number d) × (new ≡ stepped way file number d)
     unfolding stepped after
     step-done new c m = let s = says true c in (s, rw (← s) m)
 
@@ -111,3 +103,20 @@ module _ (file : List ℕ) (d : Desk) where
   pub empty_made : file_fault file ≡ fine → empty_desk (rows_in file) ≡ emptied file d
   unfolding emptied after unless
   empty_made e = rw e
+
+-- an accepted file's shape, by its counts
+module _ (s : List ℕ) (h : Shape) (is : accepted h ≡ unless (file_fault s) (shape s)) where
+  pub shape_passes : file_fault s ≡ fine
+  shape_passes = (accepts _ _ _ (sym is)).0
+
+  pub shape_rows : h.rows ≡ rows_in s
+  unfolding shape
+  shape_rows = ap (λ (x : Shape). x.rows) (sym (accepts _ _ _ (sym is)).1)
+
+  pub shape_columns : h.columns ≡ columns_in s
+  unfolding shape
+  shape_columns = ap (λ (x : Shape). x.columns) (sym (accepts _ _ _ (sym is)).1)
+
+-- an entry that was found
+pub found_here : (file : List ℕ) (number : ℕ) (e : Entry) → accepted e ≡ unless (step_fault file number) (entry_of (drop (bodies_at (number - 1)) file)) → Found file number e
+found_here file number e is = let a = accepts _ _ _ (sym is) in record { passes = a.0; entry = sym a.1 }

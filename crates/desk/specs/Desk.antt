@@ -1,11 +1,9 @@
 -- The running plan on the desk (02, P7): a desk of any numbers, a column that goes in or out, and the reply.
-use Rattle.std.specs.Prelude.{Bool, not, cond, List, ℕ, eqb, ℤ, pos, set, replicate}
+use Rattle.std.specs.Prelude.{Bool, not, cond, List, ℕ, eqb, ℤ, pos, set, replicate, Option, Some, None}
 use Rattle.signed.specs.Signed.{sum32, difference32}
 use Rattle.counts.specs.Counts.{Counts, counts_of, more, less, rows_moved}
 use Rattle.desk.specs.declared.Way.{Way}
 use Rattle.desk.specs.declared.Way.TheVariants.{Adding, Removing}
-use Rattle.desk.specs.declared.ReplyAnswer.{ReplyAnswer}
-use Rattle.desk.specs.declared.ReplyAnswer.TheVariants.{Plan, NoPlan}
 
 pub record Desk : Type 0 where
   pub marks : List ℕ  -- for each column 0, or another number where it is in
@@ -46,6 +44,6 @@ moved way j body cost d = record {
   total = new_total way d.total cost;
 }
 
--- a plan at its cost where no row is off; answered from these two numbers alone
-unfoldable pub replying : ℕ → ℤ → ReplyAnswer
-replying off total = cond (eqb off 0) (Plan total) NoPlan
+-- a plan's cost where no row is off, else no plan; answered from these two numbers alone
+unfoldable pub replying : ℕ → ℤ → Option ℤ
+replying off total = cond (eqb off 0) (Some total) None

@@ -1,18 +1,13 @@
 -- A step on a desk over a file (02, P7): its tests, what it says, and the desk after it.
 use Rattle.std.specs.Prelude.{cond, ◌&&◌, List, ℕ, ◌-◌, leb, pos, get_or}
 use Rattle.node.specs.Matrix.{body}
-use Rattle.refusals.specs.Refusals.{Fault, ask, ◌then◌, Outcome, accepted, refused, unless, number_of}
+use Rattle.refusals.specs.Refusals.{Fault, ask, ◌then◌, Outcome, accepted, refused, unless}
 use Rattle.dutyfile.specs.File.{rows_in, columns_in, parse, instance}
 use Rattle.dutyfile.specs.Faults.{file_fault}
 use Rattle.desk.specs.declared.Way.{Way}
-use Rattle.desk.specs.declared.StepAnswer.{StepAnswer}
-use Rattle.desk.specs.declared.StepAnswer.TheVariants.{Changed, Unchanged, Refused}
+use Rattle.desk.specs.declared.Said.{Said}
+use Rattle.desk.specs.declared.Said.TheVariants.{Changed, Unchanged}
 use Rattle.desk.specs.Desk.{Desk, empty_desk, changes, moved}
-
--- what an accepted step says
-pub data Said : Type 0 where
-  changed : Said
-  unchanged : Said  -- the column to add was in already, or the one to remove was not in
 
 -- 1 to 9 for the file, then 19: the column's number is from 1 to n
 unfoldable pub step_fault : List ℕ → ℕ → Fault
@@ -20,12 +15,12 @@ step_fault file number = file_fault file then ask (leb 1 number && leb number (c
 
 -- what a step says
 unfoldable pub stepping : Way → List ℕ → ℕ → Desk → Outcome Said
-stepping way file number d = unless (step_fault file number) (cond (changes way (get_or d.marks (number - 1) 0)) changed unchanged)
+stepping way file number d = unless (step_fault file number) (cond (changes way (get_or d.marks (number - 1) 0)) Changed Unchanged)
 
 -- the desk after a call that says so: the new one, or, unchanged or refused, the former one
 unfoldable pub after : Outcome Said → Desk → Desk → Desk
-after (accepted changed) new old = new
-after (accepted unchanged) new old = old
+after (accepted Changed) new old = new
+after (accepted Unchanged) new old = old
 after (refused n) new old = old
 
 -- the column with this number moved, with its rows and its cost in the file
@@ -38,10 +33,4 @@ stepped way file number d = after (stepping way file number d) (moved_by way fil
 
 -- the desk after it was made empty over a file
 unfoldable pub emptied : List ℕ → Desk → Desk
-emptied file d = after (unless (file_fault file) changed) (empty_desk (rows_in file)) d
-
--- the call's answer in these terms
-unfoldable pub step_outcome : StepAnswer → Outcome Said
-step_outcome Changed = accepted changed
-step_outcome Unchanged = accepted unchanged
-step_outcome (Refused why) = refused (number_of why)
+emptied file d = after (unless (file_fault file) Changed) (empty_desk (rows_in file)) d

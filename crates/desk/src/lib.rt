@@ -1,18 +1,17 @@
 // The running plan on the desk (02, P7): columns are added and removed one by one, and what they cover and cost is kept.
 #![tactic(auto)]
 
-ghost use Rattle.std.specs.Prelude.{◌≡◌, true, ◌-◌, ◌<◌, drop, replicate};
-ghost use Rattle.refusals.specs.Refusals.{fault_of, unless};
+ghost use Rattle.std.specs.Prelude.{◌≡◌, true, ◌-◌, ◌<◌, drop};
+ghost use Rattle.refusals.specs.Refusals.{fault_of, outcome, unless};
 ghost use Rattle.dutyfile.specs.File.{bodies_at, entry_of};
 ghost use Rattle.dutyfile.specs.Faults.{rising, file_fault};
 ghost use Rattle.desk.specs.Desk.{desk_of, changes, count_change, new_total, new_mark, moved, replying};
-ghost use Rattle.desk.specs.Steps.{step_fault, stepping, moved_by, stepped, emptied, step_outcome};
-ghost use Rattle.desk.specs.Found.{Found, column_outcome};
+ghost use Rattle.desk.specs.Steps.{step_fault, stepping, moved_by, stepped, emptied};
+ghost use Rattle.desk.specs.Found.{Found};
 ghost use Rattle.desk.specs.declared.Way.TheVariants.{Adding, Removing};
 
 use dutyfile::Entry;
-use examine::ReadAnswer;
-use refusals::{Check, Refusal};
+use refusals::Refusal;
 
 // What a step does with its column.
 #[derive(Clone, Copy)]
@@ -21,48 +20,24 @@ pub enum Way {
     Removing,
 }
 
-// What a step comes to.
+// What an accepted step says.
 #[derive(Clone, Copy)]
-pub enum StepAnswer {
+pub enum Said {
     Changed,
     // The column to add is in already, or the one to remove is not in.
     Unchanged,
-    Refused(Refusal),
-}
-
-// Whether the columns that are in are a plan.
-#[derive(Clone, Copy)]
-pub enum ReplyAnswer {
-    // The plan's cost, 01's price.
-    Plan(i32),
-    NoPlan,
-}
-
-// The entry of a column of a file.
-#[derive(Clone, Copy)]
-enum ColumnAnswer {
-    At(Entry),
-    Refused(Refusal),
 }
 
 // Tests 1 to 9, then 19: the entry of the column with this number, counted from 1.
-fn find_column(file: &[u8], number: u32) -> ColumnAnswer
-    ensures { column_outcome result ≡ unless (step_fault file.now number) (entry_of (drop (bodies_at (number - 1)) file.now)) }
+fn find_column(file: &[u8], number: u32) -> Result<Entry, Refusal>
+    ensures { outcome result ≡ unless (step_fault file.now number) (entry_of (drop (bodies_at (number - 1)) file.now)) }
 {
-    let found = examine::examine(file);
-    match found {
-        ReadAnswer::Refused(why) => ColumnAnswer::Refused(why),
-        ReadAnswer::Accepted(shape) => {
-            let number = number as usize;
-            if number < 1 {
-                return ColumnAnswer::Refused(Refusal::StepColumn);
-            }
-            if shape.columns < number {
-                return ColumnAnswer::Refused(Refusal::StepColumn);
-            }
-            ColumnAnswer::At(dutyfile::entry_at(file, number - 1))
-        }
+    let shape = examine::examine(file)?;
+    let number = number as usize;
+    if number < 1 || shape.columns < number {
+        return Err(Refusal::StepColumn);
     }
+    Ok(dutyfile::entry_at(file, number - 1))
 }
 
 // Whether a step changes a desk on which its column has this mark.
@@ -81,7 +56,7 @@ fn count_change(way: Way) -> u32
 {
     match way {
         Way::Adding => 1,
-        Way::Removing => 4294967295,
+        Way::Removing => u32::MAX,
     }
 }
 
@@ -105,7 +80,8 @@ fn new_mark(way: Way) -> u8
     }
 }
 
-// A column with this body and cost is put in or taken out.
+// A column with this body and cost is put in or taken out. A desk's parts stay four parameters: with a struct of `&mut` a contract names each
+// part as it is left by nested pairs of `.exit`, which is no plainer.
 fn move_column(
     way: Way,
     j: usize,
@@ -120,8 +96,7 @@ fn move_column(
     ensures { desk_of marks.new covered.new off.new total.new ≡ moved way j body.now cost (desk_of marks.old covered.old off.old total.old) }
 {
     counts::move_rows(body, count_change(way), covered, off);
-    let before = *total;
-    *total = new_total(way, before, cost);
+    *total = new_total(way, *total, cost);
     marks[j] = new_mark(way);
 }
 
@@ -139,8 +114,8 @@ fn move_entry(
     requires { Found file.now number e }
     ensures { desk_of marks.new covered.new off.new total.new ≡ moved_by way file.now number (desk_of marks.old covered.old off.old total.old) }
 {
-    let start = e.start as usize;
-    let end = start + e.size as usize;
+    let start = usize::from(e.start);
+    let end = start + usize::from(e.size);
     let cost = signed::from_bits(e.cost);
     move_column(
         way,
@@ -163,21 +138,16 @@ fn step(
     covered: &mut [u32; 64],
     off: &mut u32,
     total: &mut i32,
-) -> StepAnswer
-    ensures result_value { step_outcome result ≡ stepping way file.now number (desk_of marks.old covered.old off.old total.old) }
+) -> Result<Said, Refusal>
+    ensures result_value { outcome result ≡ stepping way file.now number (desk_of marks.old covered.old off.old total.old) }
     ensures total_after { desk_of marks.new covered.new off.new total.new ≡ stepped way file.now number (desk_of marks.old covered.old off.old total.old) }
 {
-    let found = find_column(file, number);
-    match found {
-        ColumnAnswer::Refused(why) => StepAnswer::Refused(why),
-        ColumnAnswer::At(e) => {
-            if !is_change(way, marks[number as usize - 1]) {
-                return StepAnswer::Unchanged;
-            }
-            move_entry(way, file, number, e, marks, covered, off, total);
-            StepAnswer::Changed
-        }
+    let e = find_column(file, number)?;
+    if !is_change(way, marks[number as usize - 1]) {
+        return Ok(Said::Unchanged);
     }
+    move_entry(way, file, number, e, marks, covered, off, total);
+    Ok(Said::Changed)
 }
 
 // Adds a column of a duty file to a desk, whatever the desk holds: changed, or unchanged where the column is in already, or a refusal; with
@@ -189,8 +159,8 @@ pub fn add(
     covered: &mut [u32; 64],
     off: &mut u32,
     total: &mut i32,
-) -> StepAnswer
-    ensures result_value { step_outcome result ≡ stepping Adding file.now number (desk_of marks.old covered.old off.old total.old) }
+) -> Result<Said, Refusal>
+    ensures result_value { outcome result ≡ stepping Adding file.now number (desk_of marks.old covered.old off.old total.old) }
     ensures total_after { desk_of marks.new covered.new off.new total.new ≡ stepped Adding file.now number (desk_of marks.old covered.old off.old total.old) }
 {
     step(Way::Adding, file, number, marks, covered, off, total)
@@ -205,25 +175,11 @@ pub fn remove(
     covered: &mut [u32; 64],
     off: &mut u32,
     total: &mut i32,
-) -> StepAnswer
-    ensures result_value { step_outcome result ≡ stepping Removing file.now number (desk_of marks.old covered.old off.old total.old) }
+) -> Result<Said, Refusal>
+    ensures result_value { outcome result ≡ stepping Removing file.now number (desk_of marks.old covered.old off.old total.old) }
     ensures total_after { desk_of marks.new covered.new off.new total.new ≡ stepped Removing file.now number (desk_of marks.old covered.old off.old total.old) }
 {
     step(Way::Removing, file, number, marks, covered, off, total)
-}
-
-// No column is in.
-fn no_marks() -> [u8; 256]
-    ensures { result ≡ replicate 256 0 }
-{
-    [0u8; 256]
-}
-
-// No row is covered.
-fn no_counts() -> [u32; 64]
-    ensures { result ≡ replicate 64 0 }
-{
-    [0u32; 64]
 }
 
 // Makes a desk empty over a duty file, whatever it held; or refuses, with the desk as it was.
@@ -233,29 +189,21 @@ pub fn empty(
     covered: &mut [u32; 64],
     off: &mut u32,
     total: &mut i32,
-) -> Check
+) -> Result<(), Refusal>
     ensures result_value { fault_of result ≡ file_fault file.now }
     ensures total_after { desk_of marks.new covered.new off.new total.new ≡ emptied file.now (desk_of marks.old covered.old off.old total.old) }
 {
-    let found = examine::examine(file);
-    match found {
-        ReadAnswer::Refused(why) => Check::Failed(why),
-        ReadAnswer::Accepted(shape) => {
-            *marks = no_marks();
-            *covered = no_counts();
-            *off = shape.rows as u32;
-            *total = 0;
-            Check::Passed
-        }
-    }
+    let rows = examine::examine(file)?.rows;
+    *marks = [0u8; 256];
+    *covered = [0u32; 64];
+    *off = rows as u32;
+    *total = 0;
+    Ok(())
 }
 
-// Whether the columns that are in are a plan, and what it costs, by the last two numbers of a desk alone.
-pub fn reply(off: u32, total: i32) -> ReplyAnswer
+// What the columns that are in cost (01's price) where they are a plan, by the last two numbers of a desk alone.
+pub fn reply(off: u32, total: i32) -> Option<i32>
     ensures { result ≡ replying off total }
 {
-    if off == 0 {
-        return ReplyAnswer::Plan(total);
-    }
-    ReplyAnswer::NoPlan
+    (off == 0).then_some(total)
 }

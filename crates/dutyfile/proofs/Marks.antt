@@ -1,23 +1,17 @@
--- What a file begins with: under 4 bytes neither SPP1 nor SPP2, and with SPP1 it is of that edition.
+-- What a file begins with: with SPP1 it is of that edition.
 use mathlib.Core.Path.{◌≡◌, sym, ◌∙◌}
 use mathlib.Core.Bool.{Bool, true, false, not}
 use mathlib.Core.List.{List}
-use Prim.Native.Nat.{ℕ, ◌<◌}
-use native.Mathlib.Omega.{arith}
-use lib.ListN.{length, take, length-take}
+use Prim.Native.Nat.{ℕ}
+use lib.ListN.{take}
 use Rattle.endian.specs.Bytes.{same}
-use Rattle.endian.proofs.Laws.{same-long}
 use Rattle.endian.proofs.Round.{same_true}
 use borrow.Author.Tests.{not-true, not-false}
 use Rattle.refusals.specs.Refusals.{fine, fault}
 use Rattle.refusals.proofs.Laws.{asked, passes, fails}
-use Rattle.dutyfile.specs.declared.Edition.{Edition}
 use Rattle.dutyfile.specs.declared.Edition.TheVariants.{Spp1}
 use Rattle.dutyfile.specs.File.{magic, edition_in, shift, added}
 use Rattle.dutyfile.specs.Faults.{spp1_fault}
-
-pub begins-short : (ed : Edition) (s : List ℕ) → length s < 4 → false ≡ same (take 4 s) (magic ed)
-begins-short ed s h = same-long (take 4 s) (magic ed) (λ e. let l : length (take 4 s) ≡ 4 = e in absurd (omega (arith, rw (length-take 4 s) at l)))
 
 pub spp1_edition : (s : List ℕ) → spp1_fault s ≡ fine → edition_in s ≡ Spp1
 unfolding spp1_fault edition_in same

@@ -4,6 +4,7 @@ use mathlib.Core.Bool.{Bool, true, false, cond, ◌&&◌, ◌||◌}
 use mathlib.Core.List.{List, [], ◌∷◌, map}
 use Prim.Native.Nat.{ℕ, zero, suc, ◌+◌, ◌≤◌, ◌<◌}
 use native.Mathlib.Omega.{arith}
+use Rattle.std.proofs.lemmas.List.{map-id}
 use lib.Dec.{leb, ltb, eqb, eqb-suc-suc}
 use borrow.Author.Tests.{lt-ltb, le-ltb, le-leb, lt-leb, ltb-true, leb-true, ne_eqb, eqb-true}
 use lib.ListN.{length, get_or, drop, drop_of_length-le}
@@ -30,6 +31,10 @@ module _ (xs : List ℕ) (low high i : ℕ) (inside : i < length xs) where
 pub rising-end : (xs : List ℕ) (low high i : ℕ) → length xs ≤ i → rising low high (drop i xs) ≡ true
 unfolding rising
 rising-end xs low high i h = rw (drop_of_length-le xs h)
+
+-- numbers that stand in their list as they are
+pub as_they_are : (r : Bool) (m : ℕ) (xs : List ℕ) → r ≡ rising 0 m (map (λ x. x) xs) → r ≡ rising 0 m xs
+as_they_are r m xs e = rw (map-id xs) at e
 
 -- the bodies one by one
 pub bodies-stop : (m : ℕ) (b : List ℕ) (bs : List (List ℕ)) → rising 0 m b ≡ false → bodies_fault m (b ∷ bs) ≡ fault 9

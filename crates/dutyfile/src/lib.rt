@@ -1,19 +1,19 @@
 // The duty file's entries, and the tests that reader and writer share.
 #![tactic(auto)]
 
-ghost use Rattle.std.specs.Prelude.{◌≡◌, ◌+◌, ◌*◌, ◌≤◌, length, take, drop, replicate};
+ghost use Rattle.std.specs.Prelude.{◌≡◌, ℕ, ◌+◌, ◌*◌, ◌≤◌, length, map, take, drop, replicate};
 ghost use Rattle.endian.specs.Bytes.{same};
 ghost use Rattle.refusals.specs.Refusals.{fault_of};
 ghost use Rattle.dutyfile.specs.File.{magic, edition_in, rows_in, columns_in, entry_of, bodies_at};
 ghost use Rattle.dutyfile.specs.Faults.{least_cost, is_cost, column_fault, counts_fault, entry_fault, rising};
 
-use refusals::{Check, Refusal};
+use refusals::Refusal;
 
 // What a file begins with: SPP1, or SPP2 (02, P10), whose costs may be 0 and below.
 #[derive(Clone, Copy)]
 pub enum Edition {
-    Spp1,
-    Spp2,
+    Spp1 = 1,
+    Spp2 = 2,
 }
 
 // A contents entry.
@@ -36,14 +36,6 @@ pub struct Shape {
     pub entries: usize,
 }
 
-// What a walk over the contents comes to.
-#[derive(Clone, Copy)]
-pub enum Contents {
-    // The number of row numbers in all bodies, 01's t.
-    Rows(usize),
-    Failed(Refusal),
-}
-
 // 6,153 places for a file, one more than the longest has: enough to see that a file is too long.
 pub fn file_space() -> [u8; 6153]
     ensures { result ≡ replicate 6153 0 }
@@ -55,12 +47,9 @@ pub fn file_space() -> [u8; 6153]
 pub fn begins(file: &[u8], edition: Edition) -> bool
     ensures { result ≡ same (take 4 file.now) (magic edition) }
 {
-    if file.len() < 4 {
-        return false;
-    }
     match edition {
-        Edition::Spp1 => endian::equal(&file[0..4], b"SPP1"),
-        Edition::Spp2 => endian::equal(&file[0..4], b"SPP2"),
+        Edition::Spp1 => file.starts_with(b"SPP1"),
+        Edition::Spp2 => file.starts_with(b"SPP2"),
     }
 }
 
@@ -104,22 +93,22 @@ pub fn entry_at(file: &[u8], j: usize) -> Entry
 }
 
 // Test 2: the numbers of rows and columns.
-pub fn check_counts(rows: usize, columns: usize) -> Check
+pub fn check_counts(rows: usize, columns: usize) -> Result<(), Refusal>
     ensures { fault_of result ≡ counts_fault rows columns }
 {
     if rows < 1 {
-        return Check::Failed(Refusal::Counts);
+        return Err(Refusal::Counts);
     }
     if 64 < rows {
-        return Check::Failed(Refusal::Counts);
+        return Err(Refusal::Counts);
     }
     if columns < 1 {
-        return Check::Failed(Refusal::Counts);
+        return Err(Refusal::Counts);
     }
     if 256 < columns {
-        return Check::Failed(Refusal::Counts);
+        return Err(Refusal::Counts);
     }
-    Check::Passed
+    Ok(())
 }
 
 // The least cost of a column.
@@ -143,80 +132,90 @@ fn is_cost(edition: Edition, cost: i32) -> bool
 }
 
 // Tests 4, 5 and 6: a column of `size` rows, after columns with `total` rows in all.
-pub fn check_column(edition: Edition, rows: usize, total: usize, cost: i32, size: u16) -> Check
+pub fn check_column(
+    edition: Edition,
+    rows: usize,
+    total: usize,
+    cost: i32,
+    size: u16,
+) -> Result<(), Refusal>
     requires { total ≤ 4096 }
     ensures { fault_of result ≡ column_fault edition rows total cost size }
 {
     if !is_cost(edition, cost) {
-        return Check::Failed(Refusal::Cost);
+        return Err(Refusal::Cost);
     }
     let size = size as usize;
     if size < 1 {
-        return Check::Failed(Refusal::Length);
+        return Err(Refusal::Length);
     }
     if rows < size {
-        return Check::Failed(Refusal::Length);
+        return Err(Refusal::Length);
     }
     if 4096 < total + size {
-        return Check::Failed(Refusal::Total);
+        return Err(Refusal::Total);
     }
-    Check::Passed
+    Ok(())
 }
 
 // Tests 4, 5, 6 and 7: an entry of a file with so many columns, after bodies of `total` rows.
-pub fn check_entry(edition: Edition, rows: usize, columns: usize, total: usize, e: Entry) -> Check
+pub fn check_entry(
+    edition: Edition,
+    rows: usize,
+    columns: usize,
+    total: usize,
+    e: Entry,
+) -> Result<(), Refusal>
     requires { (columns ≤ 256) × (total ≤ 4096) }
     ensures { fault_of result ≡ entry_fault edition rows columns total e }
 {
     let cost = signed::from_bits(e.cost);
-    let column = check_column(edition, rows, total, cost, e.size);
-    match column {
-        Check::Failed(_) => column,
-        Check::Passed => {
-            if e.start as usize != 8 + 8 * columns + total {
-                return Check::Failed(Refusal::Start);
-            }
-            Check::Passed
-        }
+    check_column(edition, rows, total, cost, e.size)?;
+    if e.start as usize != 8 + 8 * columns + total {
+        return Err(Refusal::Start);
+    }
+    Ok(())
+}
+
+// A number as it stands in a list: that of a row in a byte, that of a column in two.
+pub trait Numbered: Copy {
+    ghost value: { Self → ℕ };
+
+    // The number, as a place is counted.
+    fn value(self) -> usize
+        ensures { result ≡ value self };
+}
+
+impl Numbered for u8 {
+    ghost value = { λ x. x };
+
+    fn value(self) -> usize {
+        self as usize
     }
 }
 
-// Test 9: whether a body's row numbers rise within 1 to `rows`.
-pub fn is_rising(body: &[u8], rows: usize) -> bool
-    ensures { result ≡ rising 0 rows body.now }
-{
-    let mut last: usize = 0;
-    let mut i = 0;
-    while i < body.len() {
-        let row = body[i] as usize;
-        if row <= last {
-            return false;
-        }
-        if rows < row {
-            return false;
-        }
-        last = row;
-        i += 1;
+impl Numbered for u16 {
+    ghost value = { λ x. x };
+
+    fn value(self) -> usize {
+        self as usize
     }
-    true
 }
 
-// Whether numbers of columns rise within 1 to `most`: test 12, and 02's tests 14 and 15.
-pub fn columns_rise(columns: &[u16], most: usize) -> bool
-    ensures { result ≡ rising 0 most columns.now }
+// Whether numbers rise within 1 to `most`: test 9 of a body's row numbers, test 12, and 02's tests 14 and 15 of numbers of columns.
+pub fn rises<T: Numbered>(numbers: &[T], most: usize) -> bool
+    ensures { result ≡ rising 0 most (map T.value numbers.now) }
 {
-    let mut last: usize = 0;
-    let mut i = 0;
-    while i < columns.len() {
-        let column = columns[i] as usize;
-        if column <= last {
+    let mut last = 0;
+    for &number in numbers {
+        let next = number.value();
+        if next <= last {
             return false;
         }
-        if most < column {
+        if most < next {
             return false;
         }
-        last = column;
-        i += 1;
+        last = next;
     }
     true
 }

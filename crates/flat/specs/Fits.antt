@@ -2,7 +2,8 @@
 use Rattle.std.specs.Prelude.{◌≡◌, ℕ, ◌≤◌}
 use Rattle.refusals.specs.Refusals.{Outcome, accepted}
 use Rattle.dutyfile.specs.declared.Shape.{Shape}
-use Rattle.verify.specs.Verdict.{Verdict, not_once}
+use Rattle.verify.specs.declared.Verdict.{Verdict}
+use Rattle.verify.specs.declared.Verdict.TheVariants.{NotOnce}
 use Rattle.reduce.specs.declared.Bound.{Bound}
 use Rattle.answer.specs.Answer.{Values, told_best, told_none, told_stopped, no_plan, priced}
 
@@ -13,7 +14,7 @@ abbrev pub LengthFits : Outcome ℕ → Type 0
 LengthFits o = (size : ℕ) → o ≡ accepted size → size ≤ 6152
 
 abbrev pub RowFits : Outcome Verdict → Type 0
-RowFits o = (row times : ℕ) → o ≡ accepted (not_once row times) → row ≤ 64
+RowFits o = (row times : ℕ) → o ≡ accepted (NotOnce row times) → row ≤ 64
 
 abbrev pub UsedFits : Outcome Bound → Type 0
 UsedFits o = (found : Bound) → o ≡ accepted found → found.used ≤ 64

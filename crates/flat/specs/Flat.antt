@@ -5,8 +5,8 @@ use Rattle.refusals.specs.Refusals.{Outcome, accepted, refused}
 use Rattle.dutyfile.specs.declared.Edition.{Edition}
 use Rattle.dutyfile.specs.declared.Edition.TheVariants.{Spp1, Spp2}
 use Rattle.dutyfile.specs.declared.Shape.{Shape}
-use Rattle.verify.specs.Verdict as verdict
-use Rattle.verify.specs.Verdict.{Verdict, not_once}
+use Rattle.verify.specs.declared.Verdict.{Verdict}
+use Rattle.verify.specs.declared.Verdict.TheVariants.{Plan, NotOnce}
 use Rattle.reduce.specs.declared.Bound.{Bound}
 use Rattle.answer.specs.Answer.{Shown, no_plan, priced, Values, told_best, told_none, told_stopped}
 use Rattle.flat.specs.declared.SppShape.{SppShape}
@@ -33,8 +33,8 @@ written_of (refused k) = record { refusal = k; length = 0 }
 
 -- the plan check: a plan and its price, or a row's number, counted from 1, and how often it is covered
 unfoldable pub checked_of : Outcome Verdict → SppChecked
-checked_of (accepted (verdict.plan cost)) = record { refusal = 0; is_plan = 1; row = 0; covered = 0; price = cost }
-checked_of (accepted (not_once row times)) = record { refusal = 0; is_plan = 0; row = row; covered = times; price = pos 0 }
+checked_of (accepted (Plan cost)) = record { refusal = 0; is_plan = 1; row = 0; covered = 0; price = cost }
+checked_of (accepted (NotOnce row times)) = record { refusal = 0; is_plan = 0; row = row; covered = times; price = pos 0 }
 checked_of (refused k) = record { refusal = k; is_plan = 0; row = 0; covered = 0; price = pos 0 }
 
 -- reducing: the number of rows used and the lower bound (01: floor)

@@ -1,25 +1,21 @@
 // The answers of the calls as structs of numbers for C, with 0 in each field that the answer has no value for.
 #![tactic(auto)]
 
-ghost use Rattle.std.specs.Prelude.{◌≡◌};
-ghost use Rattle.examine.specs.Answer.{read_outcome};
-ghost use Rattle.writer.specs.Answer.{write_outcome};
-ghost use Rattle.verify.specs.Verdict.{check_outcome};
-ghost use Rattle.reduce.specs.Answer.{reduce_outcome};
+ghost use Rattle.std.specs.Prelude.{◌≡◌, ◌≤◌};
+ghost use Rattle.refusals.specs.Refusals.{outcome};
 ghost use Rattle.answer.specs.Answer.{search_outcome};
 ghost use Rattle.flat.specs.Flat.{edition_number, shape_of, written_of, checked_of, reduced_of, answer_of};
 ghost use Rattle.flat.specs.Fits.{ShapeFits, LengthFits, RowFits, UsedFits, ColumnsFit};
 
-use answer::SearchAnswer;
-use dutyfile::Edition;
-use examine::ReadAnswer;
-use reduce::ReduceAnswer;
-use verify::CheckAnswer;
-use writer::WriteAnswer;
+use answer::{Found, SearchAnswer};
+use dutyfile::{Edition, Shape};
+use reduce::Bound;
+use refusals::Refusal;
+use verify::Verdict;
 
 // What reading comes to: 01's m, n and t, and the edition.
 #[repr(C)]
-#[derive(Clone, Copy)]
+#[derive(Clone, Copy, Default)]
 pub struct SppShape {
     // 01's number of a refusal, or 0 where the call is accepted; so in each struct.
     pub refusal: u32,
@@ -32,7 +28,7 @@ pub struct SppShape {
 
 // What writing comes to: the file's length.
 #[repr(C)]
-#[derive(Clone, Copy)]
+#[derive(Clone, Copy, Default)]
 pub struct SppWritten {
     pub refusal: u32,
     pub length: u32,
@@ -40,7 +36,7 @@ pub struct SppWritten {
 
 // What checking an offered plan comes to.
 #[repr(C)]
-#[derive(Clone, Copy)]
+#[derive(Clone, Copy, Default)]
 pub struct SppChecked {
     pub refusal: u32,
     // 1 for a plan, else 0.
@@ -54,7 +50,7 @@ pub struct SppChecked {
 
 // What reducing comes to.
 #[repr(C)]
-#[derive(Clone, Copy)]
+#[derive(Clone, Copy, Default)]
 pub struct SppReduced {
     pub refusal: u32,
     // 01's sailings used.
@@ -67,116 +63,92 @@ pub struct SppReduced {
 fn edition_number(edition: Edition) -> u32
     ensures { result ≡ edition_number edition }
 {
-    match edition {
-        Edition::Spp1 => 1,
-        Edition::Spp2 => 2,
-    }
-}
-
-// The struct of these numbers.
-fn shape(refusal: u32, rows: u32, columns: u32, entries: u32, edition: u32) -> SppShape
-    ensures { result ≡ record { refusal = refusal; rows = rows; columns = columns; entries = entries; edition = edition } }
-{
-    SppShape {
-        refusal: refusal,
-        rows: rows,
-        columns: columns,
-        entries: entries,
-        edition: edition,
-    }
+    edition as u32
 }
 
 // The reader's answer as a struct.
-pub fn flat_shape(answer: ReadAnswer) -> SppShape
-    requires { ShapeFits (read_outcome answer) }
-    ensures { result ≡ shape_of (read_outcome answer) }
+pub fn flat_shape(answer: Result<Shape, Refusal>) -> SppShape
+    requires { ShapeFits (outcome answer) }
+    ensures { result ≡ shape_of (outcome answer) }
 {
     match answer {
-        ReadAnswer::Refused(why) => shape(refusals::number(why), 0, 0, 0, 0),
-        ReadAnswer::Accepted(found) => {
-            let edition = found.edition;
-            shape(
-                0,
-                found.rows as u32,
-                found.columns as u32,
-                found.entries as u32,
-                edition_number(edition),
-            )
-        }
-    }
-}
-
-// The struct of these numbers.
-fn written(refusal: u32, length: u32) -> SppWritten
-    ensures { result ≡ record { refusal = refusal; length = length } }
-{
-    SppWritten {
-        refusal: refusal,
-        length: length,
+        Err(why) => SppShape {
+            refusal: u32::from(why),
+            ..SppShape::default()
+        },
+        Ok(found) => SppShape {
+            refusal: 0,
+            rows: found.rows as u32,
+            columns: found.columns as u32,
+            entries: found.entries as u32,
+            edition: edition_number(found.edition),
+        },
     }
 }
 
 // The writer's answer as a struct.
-pub fn flat_written(answer: WriteAnswer) -> SppWritten
-    requires { LengthFits (write_outcome answer) }
-    ensures { result ≡ written_of (write_outcome answer) }
+pub fn flat_written(answer: Result<usize, Refusal>) -> SppWritten
+    requires { LengthFits (outcome answer) }
+    ensures { result ≡ written_of (outcome answer) }
 {
     match answer {
-        WriteAnswer::Refused(why) => written(refusals::number(why), 0),
-        WriteAnswer::Written(size) => written(0, size as u32),
-    }
-}
-
-// The struct of these numbers.
-fn checked(refusal: u32, is_plan: u32, row: u32, covered: u32, price: i64) -> SppChecked
-    ensures { result ≡ record { refusal = refusal; is_plan = is_plan; row = row; covered = covered; price = price } }
-{
-    SppChecked {
-        refusal: refusal,
-        is_plan: is_plan,
-        row: row,
-        covered: covered,
-        price: price,
+        Err(why) => SppWritten {
+            refusal: u32::from(why),
+            length: 0,
+        },
+        Ok(size) => SppWritten {
+            refusal: 0,
+            length: size as u32,
+        },
     }
 }
 
 // The plan check's answer as a struct.
-pub fn flat_checked(answer: CheckAnswer) -> SppChecked
-    requires { RowFits (check_outcome answer) }
-    ensures { result ≡ checked_of (check_outcome answer) }
+pub fn flat_checked(answer: Result<Verdict, Refusal>) -> SppChecked
+    requires { RowFits (outcome answer) }
+    ensures { result ≡ checked_of (outcome answer) }
 {
     match answer {
-        CheckAnswer::Refused(why) => checked(refusals::number(why), 0, 0, 0, 0),
-        CheckAnswer::Plan(cost) => checked(0, 1, 0, 0, signed::wide(cost)),
-        CheckAnswer::NotOnce(row, times) => checked(0, 0, row as u32, times, 0),
-    }
-}
-
-// The struct of these numbers.
-fn reduced(refusal: u32, used: u32, bound: i64) -> SppReduced
-    ensures { result ≡ record { refusal = refusal; used = used; bound = bound } }
-{
-    SppReduced {
-        refusal: refusal,
-        used: used,
-        bound: bound,
+        Err(why) => SppChecked {
+            refusal: u32::from(why),
+            ..SppChecked::default()
+        },
+        Ok(verdict) => match verdict {
+            Verdict::Plan(cost) => SppChecked {
+                is_plan: 1,
+                price: i64::from(cost),
+                ..SppChecked::default()
+            },
+            Verdict::NotOnce(row, times) => SppChecked {
+                row: row as u32,
+                covered: times,
+                ..SppChecked::default()
+            },
+        },
     }
 }
 
 // The reducing call's answer as a struct.
-pub fn flat_reduced(answer: ReduceAnswer) -> SppReduced
-    requires { UsedFits (reduce_outcome answer) }
-    ensures { result ≡ reduced_of (reduce_outcome answer) }
+pub fn flat_reduced(answer: Result<Bound, Refusal>) -> SppReduced
+    requires { UsedFits (outcome answer) }
+    ensures { result ≡ reduced_of (outcome answer) }
 {
     match answer {
-        ReduceAnswer::Refused(why) => reduced(refusals::number(why), 0, 0),
-        ReduceAnswer::Reduced(found) => reduced(0, found.used as u32, found.bound),
+        Err(why) => SppReduced {
+            refusal: u32::from(why),
+            ..SppReduced::default()
+        },
+        Ok(found) => SppReduced {
+            refusal: 0,
+            used: found.used as u32,
+            bound: found.bound,
+        },
     }
 }
 
 // What searching comes to.
 #[repr(C)]
-#[derive(Clone, Copy)]
+#[derive(Clone, Copy, Default)]
 pub struct SppAnswer {
     pub refusal: u32,
     // 1 best, 2 none, 3 stopped.
@@ -192,55 +164,46 @@ pub struct SppAnswer {
     pub bound: i64,
 }
 
-// The struct of these numbers.
-fn searched(
-    refusal: u32,
-    outcome: u32,
-    has_plan: u32,
-    columns: u32,
-    nodes: u32,
-    price: i64,
-    bound: i64,
-) -> SppAnswer
-    ensures { result ≡ record { refusal = refusal; outcome = outcome; has_plan = has_plan; columns = columns; nodes = nodes; price = price; bound = bound } }
+// The struct of a plan that is shown, with the number of the outcome.
+fn shown(outcome: u32, plan: Found) -> SppAnswer
+    requires { plan.columns ≤ 256 }
+    ensures { result ≡ record { refusal = 0; outcome = outcome; has_plan = 1; columns = plan.columns; nodes = plan.nodes; price = plan.cost; bound = plan.bound } }
 {
     SppAnswer {
-        refusal: refusal,
-        outcome: outcome,
-        has_plan: has_plan,
-        columns: columns,
-        nodes: nodes,
-        price: price,
-        bound: bound,
+        refusal: 0,
+        outcome,
+        has_plan: 1,
+        columns: plan.columns as u32,
+        nodes: plan.nodes,
+        price: plan.cost,
+        bound: plan.bound,
     }
 }
 
 // The search call's answer as a struct.
-pub fn flat_answer(answer: SearchAnswer) -> SppAnswer
+pub fn flat_answer(answer: Result<SearchAnswer, Refusal>) -> SppAnswer
     requires { ColumnsFit (search_outcome answer) }
     ensures { result ≡ answer_of (search_outcome answer) }
 {
     match answer {
-        SearchAnswer::Refused(why) => searched(refusals::number(why), 0, 0, 0, 0, 0, 0),
-        SearchAnswer::None(nodes) => searched(0, 2, 0, 0, nodes, 0, 0),
-        SearchAnswer::Stopped(at) => searched(0, 3, 0, 0, at.nodes, 0, at.bound),
-        SearchAnswer::Best(plan) => searched(
-            0,
-            1,
-            1,
-            plan.columns as u32,
-            plan.nodes,
-            plan.cost,
-            plan.bound,
-        ),
-        SearchAnswer::StoppedWith(kept) => searched(
-            0,
-            3,
-            1,
-            kept.columns as u32,
-            kept.nodes,
-            kept.cost,
-            kept.bound,
-        ),
+        Err(why) => SppAnswer {
+            refusal: u32::from(why),
+            ..SppAnswer::default()
+        },
+        Ok(told) => match told {
+            SearchAnswer::None(nodes) => SppAnswer {
+                outcome: 2,
+                nodes,
+                ..SppAnswer::default()
+            },
+            SearchAnswer::Stopped(at) => SppAnswer {
+                outcome: 3,
+                nodes: at.nodes,
+                bound: at.bound,
+                ..SppAnswer::default()
+            },
+            SearchAnswer::Best(plan) => shown(1, plan),
+            SearchAnswer::StoppedWith(kept) => shown(3, kept),
+        },
     }
 }

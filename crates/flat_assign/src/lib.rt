@@ -5,7 +5,7 @@ ghost use Rattle.std.specs.Prelude.{◌≡◌};
 ghost use Rattle.assign.specs.Answer.{assign_outcome};
 ghost use Rattle.flat_assign.specs.Struct.{assigned_of};
 
-use assign::AssignAnswer;
+use refusals::Refusal;
 
 // What assigning crews to vessels comes to.
 #[repr(C)]
@@ -24,19 +24,19 @@ fn assigned(refusal: u32, outcome: u32, total: u64) -> SppAssigned
     ensures { result ≡ record { refusal = refusal; outcome = outcome; total = total } }
 {
     SppAssigned {
-        refusal: refusal,
-        outcome: outcome,
-        total: total,
+        refusal,
+        outcome,
+        total,
     }
 }
 
 // The assigning call's answer as a struct.
-pub fn flat_assigned(answer: AssignAnswer) -> SppAssigned
+pub fn flat_assigned(answer: Result<Option<u32>, Refusal>) -> SppAssigned
     ensures { result ≡ assigned_of (assign_outcome answer) }
 {
     match answer {
-        AssignAnswer::Refused(why) => assigned(refusals::number(why), 0, 0),
-        AssignAnswer::None => assigned(0, 2, 0),
-        AssignAnswer::Best(total) => assigned(0, 1, total as u64),
+        Err(why) => assigned(u32::from(why), 0, 0),
+        Ok(None) => assigned(0, 2, 0),
+        Ok(Some(total)) => assigned(0, 1, u64::from(total)),
     }
 }

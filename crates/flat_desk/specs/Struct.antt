@@ -1,9 +1,8 @@
 -- What the desk's calls come to, as numbers for C: a refusal has its number and 0 in every other field; otherwise the refusal is 0.
-use Rattle.std.specs.Prelude.{ℕ, pos}
+use Rattle.std.specs.Prelude.{ℕ, ℤ, pos, Option, Some, None}
 use Rattle.refusals.specs.Refusals.{Fault, fine, fault, Outcome, accepted, refused}
-use Rattle.desk.specs.declared.ReplyAnswer.{ReplyAnswer}
-use Rattle.desk.specs.declared.ReplyAnswer.TheVariants.{Plan, NoPlan}
-use Rattle.desk.specs.Steps.{Said, changed, unchanged}
+use Rattle.desk.specs.declared.Said.{Said}
+use Rattle.desk.specs.declared.Said.TheVariants.{Changed, Unchanged}
 use Rattle.flat_desk.specs.declared.SppStep.{SppStep}
 use Rattle.flat_desk.specs.declared.SppReply.{SppReply}
 
@@ -12,10 +11,10 @@ fault_number fine = 0
 fault_number (fault k) = k
 
 unfoldable pub step_of : Outcome Said → SppStep
-step_of (accepted changed) = record { refusal = 0; changed = 1 }
-step_of (accepted unchanged) = record { refusal = 0; changed = 0 }
+step_of (accepted Changed) = record { refusal = 0; changed = 1 }
+step_of (accepted Unchanged) = record { refusal = 0; changed = 0 }
 step_of (refused n) = record { refusal = n; changed = 0 }
 
-unfoldable pub reply_in : ReplyAnswer → SppReply
-reply_in (Plan total) = record { refusal = 0; is_plan = 1; price = total }
-reply_in NoPlan = record { refusal = 0; is_plan = 0; price = pos 0 }
+unfoldable pub reply_in : Option ℤ → SppReply
+reply_in (Some total) = record { refusal = 0; is_plan = 1; price = total }
+reply_in None = record { refusal = 0; is_plan = 0; price = pos 0 }

@@ -2,12 +2,11 @@
 #![tactic(auto)]
 
 ghost use Rattle.std.specs.Prelude.{◌≡◌};
-ghost use Rattle.refusals.specs.Refusals.{fault_of};
-ghost use Rattle.desk.specs.Steps.{step_outcome};
+ghost use Rattle.refusals.specs.Refusals.{fault_of, outcome};
 ghost use Rattle.flat_desk.specs.Struct.{fault_number, step_of, reply_in};
 
-use desk::{ReplyAnswer, StepAnswer};
-use refusals::Check;
+use desk::Said;
+use refusals::Refusal;
 
 // What a step did.
 #[repr(C)]
@@ -32,29 +31,29 @@ pub struct SppReply {
 }
 
 // The number of a refusal, or 0 where tests pass.
-pub fn flat_check(test: Check) -> u32
+pub fn flat_check(test: Result<(), Refusal>) -> u32
     ensures { result ≡ fault_number (fault_of test) }
 {
     match test {
-        Check::Passed => 0,
-        Check::Failed(why) => refusals::number(why),
+        Ok(()) => 0,
+        Err(why) => u32::from(why),
     }
 }
 
 // A step's answer as a struct.
-pub fn flat_step(answer: StepAnswer) -> SppStep
-    ensures { result ≡ step_of (step_outcome answer) }
+pub fn flat_step(answer: Result<Said, Refusal>) -> SppStep
+    ensures { result ≡ step_of (outcome answer) }
 {
     match answer {
-        StepAnswer::Refused(why) => SppStep {
-            refusal: refusals::number(why),
+        Err(why) => SppStep {
+            refusal: u32::from(why),
             changed: 0,
         },
-        StepAnswer::Unchanged => SppStep {
+        Ok(Said::Unchanged) => SppStep {
             refusal: 0,
             changed: 0,
         },
-        StepAnswer::Changed => SppStep {
+        Ok(Said::Changed) => SppStep {
             refusal: 0,
             changed: 1,
         },
@@ -62,16 +61,16 @@ pub fn flat_step(answer: StepAnswer) -> SppStep
 }
 
 // A reply as a struct.
-pub fn flat_reply(answer: ReplyAnswer) -> SppReply
+pub fn flat_reply(answer: Option<i32>) -> SppReply
     ensures { result ≡ reply_in answer }
 {
     match answer {
-        ReplyAnswer::NoPlan => SppReply {
+        None => SppReply {
             refusal: 0,
             is_plan: 0,
             price: 0,
         },
-        ReplyAnswer::Plan(total) => SppReply {
+        Some(total) => SppReply {
             refusal: 0,
             is_plan: 1,
             price: total,

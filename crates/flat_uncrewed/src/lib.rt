@@ -6,6 +6,7 @@ ghost use Rattle.std.specs.Prelude.{◌≡◌};
 ghost use Rattle.uncrewed.specs.Answer.{uncrewed_outcome};
 ghost use Rattle.flat_uncrewed.specs.Struct.{uncrewed_of};
 
+use refusals::Refusal;
 use uncrewed::UncrewedAnswer;
 
 // Which sailings of a file can't be crewed.
@@ -27,21 +28,21 @@ fn numbers(refusal: u32, outcome: u32, row: u32, columns: u32) -> SppUncrewed
     ensures { result ≡ record { refusal = refusal; outcome = outcome; row = row; columns = columns } }
 {
     SppUncrewed {
-        refusal: refusal,
-        outcome: outcome,
-        row: row,
-        columns: columns,
+        refusal,
+        outcome,
+        row,
+        columns,
     }
 }
 
 // The call's answer as a struct.
-pub fn flat_uncrewed(answer: UncrewedAnswer) -> SppUncrewed
+pub fn flat_uncrewed(answer: Result<UncrewedAnswer, Refusal>) -> SppUncrewed
     ensures { result ≡ uncrewed_of (uncrewed_outcome answer) }
 {
     match answer {
-        UncrewedAnswer::Refused(why) => numbers(refusals::number(why), 0, 0, 0),
-        UncrewedAnswer::PlanExists => numbers(0, 2, 0, 0),
-        UncrewedAnswer::Stopped(row) => numbers(0, 3, row, 0),
-        UncrewedAnswer::NoCrew(reached) => numbers(0, 1, reached.row, reached.columns),
+        Err(why) => numbers(u32::from(why), 0, 0, 0),
+        Ok(UncrewedAnswer::PlanExists) => numbers(0, 2, 0, 0),
+        Ok(UncrewedAnswer::Stopped(row)) => numbers(0, 3, row, 0),
+        Ok(UncrewedAnswer::NoCrew(reached)) => numbers(0, 1, reached.row, reached.columns),
     }
 }

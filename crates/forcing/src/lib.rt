@@ -17,11 +17,8 @@ fn free_count(column: &[u8; 256], columns: &[u16]) -> usize
     ensures { result ≡ length (free_in column.now columns.now) }
 {
     let mut n = 0;
-    let mut k = 0;
-    while k < columns.len() {
-        let j = columns[k] as usize;
-        k += 1;
-        if column[j] == 1 {
+    for &j in columns {
+        if column[j as usize] == 1 {
             n += 1;
         }
     }
@@ -33,10 +30,8 @@ fn first_free(column: &[u8; 256], columns: &[u16]) -> usize
     requires { Columns columns.now }
     ensures { result ≡ first (free_in column.now columns.now) }
 {
-    let mut k = 0;
-    while k < columns.len() {
-        let found = columns[k] as usize;
-        k += 1;
+    for &j in columns {
+        let found = j as usize;
         if column[found] == 1 {
             return found;
         }
@@ -91,12 +86,9 @@ pub fn open_rows_ask<'a>(column: &'a [u8; 256], row: &'a [u8; 64], matrix: &[u16
 {
     let rows = row_count(matrix);
     let mut found = Asked::Settled;
-    let mut i = 0;
-    while i < rows {
-        let at = i;
-        i += 1;
-        if row[at] == 1 {
-            let next = row_asks(column, matrix, at);
+    for i in 0..rows {
+        if row[i] == 1 {
+            let next = row_asks(column, matrix, i);
             if let Asked::Dead = next {
                 return Asked::Dead;
             }

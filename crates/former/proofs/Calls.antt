@@ -17,7 +17,8 @@ use Rattle.verify.specs.Verdict.{lowest, verdict, checking}
 use Rattle.reduce.specs.Answer.{reduced_root, bound_of, reduced_costs, used_rows, lists_fault, reduce_fault, reducing}
 use Rattle.desk.specs.declared.Way.{Way}
 use Rattle.desk.specs.Desk.{Desk}
-use Rattle.desk.specs.Steps.{Said, step_fault, stepping, after, moved_by, stepped, emptied}
+use Rattle.desk.specs.declared.Said.{Said}
+use Rattle.desk.specs.Steps.{step_fault, stepping, after, moved_by, stepped, emptied}
 use Rattle.former.specs.File.{NotSpp2, former_parse, former_shape}
 use Rattle.former.specs.Faults.{former_file_fault}
 use Rattle.former.specs.Answers.{map_outcome, in_spp1, FormerVerdict, signed_verdict, signed_bound}

@@ -5,8 +5,8 @@ use Rattle.rules.specs.Search.{Incumbent, nothing, plan, Answer, best, none, sto
 use Rattle.dutyfile.specs.declared.Edition.TheVariants.{Spp1}
 use Rattle.dutyfile.specs.declared.Shape.{Shape}
 use Rattle.dutyfile.specs.File.{Lists, lists}
-use Rattle.verify.specs.Verdict.{Verdict}
-use Rattle.verify.specs.Verdict as verify
+use Rattle.verify.specs.declared.Verdict.{Verdict}
+use Rattle.verify.specs.declared.Verdict.TheVariants.{Plan, NotOnce}
 use Rattle.answer.specs.Answer.{Shown, Values}
 use Rattle.answer.specs.Answer as answer
 use Rattle.reduce.specs.declared.Bound.{Bound}
@@ -31,8 +31,8 @@ pub data FormerVerdict : Type 0 where
   former_not_once : ℕ → ℕ → FormerVerdict
 
 abbrev pub signed_verdict : FormerVerdict → Verdict
-signed_verdict (former_plan c) = verify.plan (pos c)
-signed_verdict (former_not_once i k) = verify.not_once i k
+signed_verdict (former_plan c) = Plan (pos c)
+signed_verdict (former_not_once i k) = NotOnce i k
 
 -- the searches: a plan's price and number of duties, if there is a plan
 pub data FormerShown : Type 0 where

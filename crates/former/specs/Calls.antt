@@ -10,7 +10,9 @@ use Rattle.dutyfile.specs.Faults.{rising, room, rooms_fault}
 use Rattle.reduce.specs.Answer.{lists_fault}
 use Rattle.desk.specs.declared.Way.{Way}
 use Rattle.desk.specs.Desk.{Desk, empty_desk, changes, moved}
-use Rattle.desk.specs.Steps.{Said, changed, unchanged, after}
+use Rattle.desk.specs.declared.Said.{Said}
+use Rattle.desk.specs.declared.Said.TheVariants.{Changed, Unchanged}
+use Rattle.desk.specs.Steps.{after}
 use Rattle.former.specs.File.{FormerLists, former_parse, former_render, former_instance, FormerShape, former_shape}
 use Rattle.former.specs.Faults.{former_file_fault, former_lists_fault}
 use Rattle.former.specs.Answers.{FormerVerdict, former_plan, former_not_once, FormerBound}
@@ -62,7 +64,7 @@ former_step_fault file number = former_file_fault file then ask (leb 1 number &&
 
 -- what a step says
 unfoldable pub former_stepping : Way → List ℕ → ℕ → Desk → Outcome Said
-former_stepping way file number d = unless (former_step_fault file number) (cond (changes way (get_or d.marks (number - 1) 0)) changed unchanged)
+former_stepping way file number d = unless (former_step_fault file number) (cond (changes way (get_or d.marks (number - 1) 0)) Changed Unchanged)
 
 -- the column with this number moved, with its rows and its cost in the file
 unfoldable pub former_moved_by : Way → List ℕ → ℕ → Desk → Desk
@@ -75,4 +77,4 @@ former_stepped way file number d = after (former_stepping way file number d) (fo
 
 -- the desk after it was made empty over a file
 unfoldable pub former_emptied : List ℕ → Desk → Desk
-former_emptied file d = after (unless (former_file_fault file) changed) (empty_desk (rows_in file)) d
+former_emptied file d = after (unless (former_file_fault file) Changed) (empty_desk (rows_in file)) d

@@ -2,12 +2,11 @@
 use mathlib.Core.Path.{◌≡◌, refl, ◌∙◌}
 use mathlib.Core.Bool.{Bool, true, false}
 use mathlib.Core.List.{List}
-use Prim.Native.Nat.{ℕ, ◌+◌, ◌-◌, ◌≤◌, ◌<◌}
+use Prim.Native.Nat.{ℕ, ◌-◌, ◌≤◌, ◌<◌}
 use native.Mathlib.Omega.{arith}
-use lib.ListN.{length, get_or, set, length-set, length-map, get_or-eq_default}
-use lib.Seq.{get_or-set_same, get_or-set_other}
-use lib.Dec.{eqb, ltb}
-use borrow.Author.Tests.{eqb-true, eqb-false, ltb-true, ltb-false}
+use lib.ListN.{length, get_or, length-map, get_or-eq_default}
+use lib.Dec.{ltb}
+use borrow.Author.Tests.{ltb-true, ltb-false}
 use Rattle.node.specs.Lists.{upto, table}
 use Rattle.node.proofs.Members.{at_table, length_from}
 use Rattle.node.proofs.Loops.{table_ext}
@@ -18,23 +17,6 @@ pub record Netting (costs : List ℕ) (b : ℕ) (net : List ℕ) (j : ℕ) : Typ
   pub long : length net ≡ 256
   pub within : j ≤ 256
   pub filled : (k : ℕ) → k < j → get_or net k 0 ≡ get_or costs k 0 - b
-
-pub netting_start : (costs : List ℕ) (b : ℕ) (net : List ℕ) → length net ≡ 256 → Netting costs b net 0
-netting_start costs b net e = record { long = e; within = omega arith; filled = λ k l. absurd (omega arith) }
-
-pub netting_next : (costs : List ℕ) (b : ℕ) (net : List ℕ) (j : ℕ) → Netting costs b net j → j < 256
-    → (v : ℕ) → v ≡ get_or costs j 0 - b → Netting costs b (set net j v) (j + 1)
-netting_next costs b net j w h v e = record {
-  long = length-set net j v ∙ w.long;
-  within = omega arith;
-  filled = λ k l. go k l (eqb k j) refl;
-}
-  where
-    go : (k : ℕ) → k < j + 1 → (t : Bool) → eqb k j ≡ t → get_or (set net j v) k 0 ≡ get_or costs k 0 - b
-    go k l true q =
-        let d : k ≡ j = eqb-true k j q in
-        rw d (get_or-set_same net j v 0 (omega (arith, w.long)) ∙ e)
-    go k l false q = get_or-set_other net j k v 0 (eqb-false k j q) ∙ w.filled k (omega (arith, eqb-false k j q))
 
 pub netting_end : (costs : List ℕ) (b : ℕ) (net : List ℕ) (j : ℕ) → Netting costs b net j → 256 ≤ j → net ≡ less_bound b costs
 netting_end costs b net j w h =

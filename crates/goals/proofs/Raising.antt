@@ -1,14 +1,15 @@
 -- The bound raised by one pass over the open rows, and a row's least cost by one pass over its columns.
 use mathlib.Core.Path.{◌≡◌, refl, ap, sym, ◌∙◌}
-use mathlib.Core.Bool.{Bool, true, not, cond}
+use mathlib.Core.Bool.{true}
 use mathlib.Core.List.{List, [], ◌∷◌, ◌++◌}
 use Prim.Native.Nat.{ℕ, ◌+◌, ◌≤◌, ◌<◌, max, min}
 use native.Mathlib.Omega.{arith}
 use lib.ListN.{length, get_or}
 use lib.Dec.{eqb}
 use borrow.Author.Tests.{eq-eqb}
+use Rattle.std.proofs.Common.{Option, Some, None, MatchOption, unwrap_or}
 use Rattle.node.specs.declared.Node.{Node}
-use Rattle.node.specs.Lists.{keep, member, least, least_from, is_empty}
+use Rattle.node.specs.Lists.{keep, member, least, least_from}
 use Rattle.node.specs.Matrix.{Matrix}
 use Rattle.node.specs.Node.{cost_at, open_rows}
 use Rattle.node.specs.View.{node_of}
@@ -53,17 +54,28 @@ pub raised_is : (p : Matrix) (s : Node) (b : ℕ) → b ≡ (raised p s).bound �
 unfolding raised
 raised_is p s b e = rw e
 
--- whether a list has an element, and its least value; with one more element
-abbrev pub told : (ℕ → ℕ) → List ℕ → Bool × ℕ
-told f js = (not (is_empty js), least f js)
+-- the least value of a list that has an element; with one more element
+abbrev pub told : (ℕ → ℕ) → List ℕ → Option ℕ
+told f [] = None
+told f (j ∷ js) = Some (least_from f j js)
 
-abbrev pub more : (ℕ → ℕ) → Bool × ℕ → ℕ → Bool × ℕ
-more f a j = (true, cond a.0 (min a.1 (f j)) (f j))
+abbrev pub more : (ℕ → ℕ) → Option ℕ → ℕ → Option ℕ
+more f None j = Some (f j)
+more f (Some b) j = Some (min b (f j))
+
+pub more_is : (f : ℕ → ℕ) (a : Option ℕ) (j next : ℕ) → MatchOption a (next ≡ f j) (λ b. next ≡ min b (f j)) → Some next ≡ more f a j
+more_is f None j next e = ap Some e
+more_is f (Some b) j next e = ap Some e
 
 pub told_more : (f : ℕ → ℕ) (js : List ℕ) (j : ℕ) → more f (told f js) j ≡ told f (js ++ (j ∷ []))
-unfolding is_empty least least_from
+unfolding least least_from
 told_more f [] j = refl
-told_more f (i ∷ is) j = ap (λ (n : ℕ). (true, n)) (sym (least_append f i is j))
+told_more f (i ∷ is) j = ap Some (sym (least_append f i is j))
+
+pub told_least : (f : ℕ → ℕ) (js : List ℕ) → unwrap_or (told f js) 0 ≡ least f js
+unfolding least
+told_least f [] = refl
+told_least f (j ∷ js) = refl
 
 -- a free column that costs no more than the bound
 pub raise_ends : (cost column js : List ℕ) (b k : ℕ) → k < length js → get_or column (get_or js k 0) 0 ≡ 1 → get_or cost (get_or js k 0) 0 ≤ b

@@ -2,7 +2,7 @@
 // and the present costs.
 #![tactic(auto)]
 
-ghost use Rattle.std.specs.Prelude.{◌≡◌, cond, ◌+◌, ◌-◌, ◌<◌, max, min};
+ghost use Rattle.std.specs.Prelude.{◌≡◌, ◌+◌, ◌<◌, max};
 ghost use Rattle.node.specs.View.{node_of};
 ghost use Rattle.node.specs.Stored.{matrix_in, Kept, Columns};
 ghost use Rattle.rules.specs.Longest.{raised};
@@ -12,16 +12,6 @@ ghost use Rattle.goals.specs.Raising.{least_in, less_bound};
 use node::{row_count, row_part};
 use rules::Goal;
 
-// The larger of two numbers.
-fn larger(a: u32, b: u32) -> u32
-    ensures { result ≡ max a b }
-{
-    if a <= b {
-        return b;
-    }
-    a
-}
-
 // The bound with a column of a cost taken: for the sum the cost joins it, for the longest duty the larger of both counts.
 pub fn join(goal: Goal, bound: u32, cost: u32) -> u32
     requires { bound + cost < 4294967296 }
@@ -29,20 +19,8 @@ pub fn join(goal: Goal, bound: u32, cost: u32) -> u32
 {
     match goal {
         Goal::Sum => bound + cost,
-        Goal::Longest => larger(bound, cost),
+        Goal::Longest => bound.max(cost),
     }
-}
-
-// The least cost with one more, if there was one before.
-fn lesser(seen: bool, least: u32, cost: u32) -> u32
-    ensures { result ≡ cond seen (min least cost) cost }
-{
-    if seen {
-        if least <= cost {
-            return least;
-        }
-    }
-    cost
 }
 
 // The larger of a bound and the least cost of the free ones of some columns. They are left at the first that costs no more than the
@@ -51,21 +29,17 @@ fn raise_by(cost: &[u32; 256], column: &[u8; 256], columns: &[u16], bound: u32) 
     requires { Columns columns.now }
     ensures { result ≡ max bound (least_in cost.now column.now columns.now) }
 {
-    let mut seen = false;
-    let mut least = 0;
-    let mut k = 0;
-    while k < columns.len() {
-        let j = columns[k] as usize;
-        k += 1;
-        if column[j] == 1 {
-            if cost[j] <= bound {
+    let mut least: Option<u32> = None;
+    for &j in columns {
+        if column[j as usize] == 1 {
+            let next = cost[j as usize];
+            if next <= bound {
                 return bound;
             }
-            least = lesser(seen, least, cost[j]);
-            seen = true;
+            least = Some(least.map_or(next, |least| least.min(next)));
         }
     }
-    larger(bound, least)
+    bound.max(least.unwrap_or(0))
 }
 
 // The larger of a bound and the largest, over the open rows, of the least cost of a free column, in one pass over the rows.
@@ -81,26 +55,13 @@ pub fn raise<'a>(
 {
     let rows = row_count(matrix);
     let mut best = bound;
-    let mut i = 0;
-    while i < rows {
-        let at = i;
-        i += 1;
-        if row[at] == 1 {
-            let columns = row_part(matrix, at);
+    for i in 0..rows {
+        if row[i] == 1 {
+            let columns = row_part(matrix, i);
             best = raise_by(cost, column, columns, best);
         }
     }
     best
-}
-
-// A cost less a bound, or 0 where that is negative.
-fn less(cost: u32, bound: u32) -> u32
-    ensures { result ≡ cost - bound }
-{
-    if cost <= bound {
-        return 0;
-    }
-    cost - bound
 }
 
 // The present costs for the longest duty: each cost less the bound.
@@ -108,10 +69,8 @@ pub fn present(cost: &[u32; 256], bound: u32) -> [u32; 256]
     ensures { result ≡ less_bound bound cost.now }
 {
     let mut net = [0u32; 256];
-    let mut j = 0;
-    while j < 256 {
-        net[j] = less(cost[j], bound);
-        j += 1;
+    for j in 0..256 {
+        net[j] = cost[j].saturating_sub(bound);
     }
     net
 }

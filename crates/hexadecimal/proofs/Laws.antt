@@ -1,37 +1,16 @@
 -- One turn of each loop, and its end: what is left from here gives the whole.
 use mathlib.Core.Path.{◌≡◌, refl, ap}
 use mathlib.Core.List.{List, [], ◌∷◌}
-use Prim.Native.Nat.{ℕ, suc, ◌+◌, ◌-◌, ◌≤◌, ◌<◌}
+use Prim.Native.Nat.{ℕ, suc, ◌+◌, ◌-◌, ◌*◌, ◌/◌, ◌≤◌, ◌<◌, min}
 use native.Mathlib.Nat.{zero-add, sub-zero}
 use native.Mathlib.Numerals.{add-one}
 use native.Mathlib.Omega.{arith}
-use borrow.Author.Tests.{le-leb, lt-leb, eq-eqb, ne_eqb}
+use borrow.Author.Tests.{leb-true, leb-false, eq-eqb, ne_eqb}
+use lib.Dec.{leb}
+use mathlib.Core.Bool.{Bool, true, false}
 use lib.ListN.{length, get_or, take, drop, set, length-set, length-drop, drop_of_length-le}
 use lib.Seq.{sets, drop-cons, take_all}
-use Rattle.hexadecimal.specs.Text.{digit_of, byte_of, bytes_of, decoded, before, place_of}
-
--- A digit, by the range of its character.
-
-module _ (b : ℕ) where
-  pub below_digits : b < 48 → 0 ≡ digit_of b
-  unfolding digit_of
-  below_digits h = simp (lt-leb 48 b h, lt-leb 97 b (omega arith))
-
-  pub is_digit : 48 ≤ b → b ≤ 57 → b - 48 ≡ digit_of b
-  unfolding digit_of
-  is_digit h k = simp (le-leb 48 b h, le-leb b 57 k)
-
-  pub below_letters : 57 < b → b < 97 → 0 ≡ digit_of b
-  unfolding digit_of
-  below_letters h k = simp (le-leb 48 b (omega arith), lt-leb b 57 h, lt-leb 97 b k)
-
-  pub is_letter : 97 ≤ b → b ≤ 102 → b - 87 ≡ digit_of b
-  unfolding digit_of
-  is_letter h k = simp (le-leb 48 b (omega arith), lt-leb b 57 (omega arith), le-leb 97 b h, le-leb b 102 k)
-
-  pub above_letters : 102 < b → 0 ≡ digit_of b
-  unfolding digit_of
-  above_letters h = simp (le-leb 48 b (omega arith), lt-leb b 57 (omega arith), le-leb 97 b (omega arith), lt-leb b 102 h)
+use Rattle.hexadecimal.specs.Text.{byte_of, bytes_of, decoded, before, place_of}
 
 -- Decoding.
 
@@ -64,6 +43,14 @@ module _ (text : List ℕ) (places n i : ℕ) where
 
   pub left-full : places ≤ n → left text places n i ≡ []
   left-full h = let none : places - n ≡ 0 = omega arith in rw none
+
+-- nothing is left where the places or the text end
+pub left_end : (text : List ℕ) (places k : ℕ) → min places ((length text - 1) / 2) ≤ k → left text places k (2 * k + 2) ≡ []
+left_end text places k h = go (leb places k) refl
+  where
+    go : (full : Bool) → leb places k ≡ full → left text places k (2 * k + 2) ≡ []
+    go true e = left-full text places k (2 * k + 2) (leb-true places k e)
+    go false e = left-none text places k (2 * k + 2) (let n = leb-false places k e in omega arith)
 
 pub record Decoding (text old file : List ℕ) (n i : ℕ) : Type 0 where
   pub place : 2 ≤ i

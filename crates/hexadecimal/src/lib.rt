@@ -6,23 +6,16 @@ ghost use Rattle.std.proofs.lemmas.List.Edits.{sets};
 ghost use Rattle.hexadecimal.specs.Text.{digit_of, byte_of, decoded, place_of};
 
 // The value of a hexadecimal digit, or 0.
+#[tactic(auto, unfolding(crate::specs::Text::digit_of))]
 fn digit(b: u8) -> u8
     ensures value { result ≡ digit_of b }
     ensures upper_bound { result ≤ 15 }
 {
-    if b < 48 {
-        return 0;
+    match b {
+        b'0'..=b'9' => b - b'0',
+        b'a'..=b'f' => b - b'a' + 10,
+        _ => 0,
     }
-    if b <= 57 {
-        return b - 48;
-    }
-    if b < 97 {
-        return 0;
-    }
-    if b <= 102 {
-        return b - 87;
-    }
-    0
 }
 
 // The byte of two digits.
@@ -38,15 +31,9 @@ pub fn decode(text: &[u8], file: &mut [u8]) -> usize
     ensures file_after { file.new ≡ sets file.old 0 (decoded text.now (length file.old)) }
     ensures upper_bound { result ≤ length file.new }
 {
-    let mut n = 0;
-    let mut i = 2;
-    while i < text.len() {
-        if file.len() <= n {
-            return n;
-        }
-        file[n] = byte(text[i - 1], text[i]);
-        n += 1;
-        i += 2;
+    let n = file.len().min(text.len().saturating_sub(1) / 2);
+    for k in 0..n {
+        file[k] = byte(text[2 * k + 1], text[2 * k + 2]);
     }
     n
 }
@@ -56,12 +43,10 @@ pub fn find(s: &[u8], from: usize, b: u8) -> usize
     ensures value { result ≡ place_of s.now from b }
     ensures lower_bound { (min from (length s.now) ≤ result) × (result ≤ length s.now) }
 {
-    let mut i = from;
-    while i < s.len() {
+    for i in from..s.len() {
         if s[i] == b {
             return i;
         }
-        i += 1;
     }
     s.len()
 }

@@ -7,8 +7,10 @@ ghost use Rattle.line.specs.Line.{decimal, field, fields, words_of, line_of};
 ghost use Rattle.line.specs.Put.{Put};
 
 use answer::{Found, Halted, SearchAnswer};
+use refusals::Refusal;
 
 // The digits of a number, from a place on. Gives the place after them.
+// Into a lent buffer, and not by `format!`: no heap.
 fn put_digits(out: &mut [u8], at: usize, n: u64) -> usize
     requires { at + 20 ≤ length out.old }
     ensures upper_bound { result ≤ at + 20 }
@@ -36,7 +38,7 @@ fn put_signed(out: &mut [u8], at: usize, z: i64) -> usize
     ensures upper_bound { result ≤ at + 22 }
     ensures put { Put out.old out.new at result (field z) }
 {
-    let n = signed::magnitude(z);
+    let n = z.unsigned_abs();
     if z < 0 {
         endian::put(out, at, b" -");
         return put_digits(out, at + 2, n);
@@ -52,7 +54,7 @@ fn put_found(out: &mut [u8], at: usize, found: Found) -> usize
 {
     let floor = put_signed(out, at, found.cost);
     let nodes = put_signed(out, floor, found.bound);
-    let duties = put_number(out, nodes, found.nodes as u64);
+    let duties = put_number(out, nodes, u64::from(found.nodes));
     put_number(out, duties, found.columns as u64)
 }
 
@@ -63,42 +65,42 @@ fn put_halted(out: &mut [u8], at: usize, halted: Halted) -> usize
     ensures put { Put out.old out.new at result (fields (halted.bound ∷ pos halted.nodes ∷ pos 0 ∷ [])) }
 {
     let nodes = put_signed(out, at, halted.bound);
-    let duties = put_number(out, nodes, halted.nodes as u64);
+    let duties = put_number(out, nodes, u64::from(halted.nodes));
     put_number(out, duties, 0)
 }
 
 // The answer's word and numbers, at the front.
-fn put_answer(out: &mut [u8], answer: SearchAnswer) -> usize
+fn put_answer(out: &mut [u8], answer: Result<SearchAnswer, Refusal>) -> usize
     requires { 128 ≤ length out.old }
     ensures upper_bound { result ≤ 127 }
     ensures put { Put out.old out.new 0 result (words_of (search_outcome answer)) }
 {
     match answer {
-        SearchAnswer::Best(found) => {
+        Ok(SearchAnswer::Best(found)) => {
             endian::put(out, 0, b"best");
             put_found(out, 4, found)
         }
-        SearchAnswer::None(nodes) => {
+        Ok(SearchAnswer::None(nodes)) => {
             endian::put(out, 0, b"none");
-            put_number(out, 4, nodes as u64)
+            put_number(out, 4, u64::from(nodes))
         }
-        SearchAnswer::Stopped(halted) => {
+        Ok(SearchAnswer::Stopped(halted)) => {
             endian::put(out, 0, b"stopped -");
             put_halted(out, 9, halted)
         }
-        SearchAnswer::StoppedWith(found) => {
+        Ok(SearchAnswer::StoppedWith(found)) => {
             endian::put(out, 0, b"stopped");
             put_found(out, 7, found)
         }
-        SearchAnswer::Refused(why) => {
+        Err(why) => {
             endian::put(out, 0, b"refused");
-            put_number(out, 7, refusals::number(why) as u64)
+            put_number(out, 7, u64::from(u32::from(why)))
         }
     }
 }
 
 // The answer's line, at the front. Gives its length.
-pub fn put_line(out: &mut [u8], answer: SearchAnswer) -> usize
+pub fn put_line(out: &mut [u8], answer: Result<SearchAnswer, Refusal>) -> usize
     requires { 128 ≤ length out.old }
     ensures upper_bound { result ≤ 128 }
     ensures put { Put out.old out.new 0 result (line_of (search_outcome answer)) }

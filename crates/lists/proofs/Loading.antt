@@ -18,14 +18,14 @@ use Rattle.dutyfile.specs.declared.Shape.{Shape}
 use Rattle.dutyfile.specs.File.{parse, raised_all, instance}
 use Rattle.raising.specs.Priced.{AllPriced}
 use Rattle.refusals.specs.declared.Refusal.{Refusal}
-use Rattle.examine.specs.declared.ReadAnswer.TheVariants.{Accepted as accept, Refused as refuse}
+use Rattle.std.specs.Prelude.{Result, Ok, Err}
 use Rattle.matrix.specs.Stated.{stated, Statable, Holds}
 use Rattle.lists.specs.Loaded.{Loaded}
 use Rattle.lists.proofs.Read.{Listed}
 
 -- an answer that is refused is not accepted
-pub refuses_only : (why : Refusal) (found : Shape) → refuse why ≡ accept found → ⊥
-refuses_only why found e = let z : ◌≡◌ {A = ℕ} 0 1 = cc in omega arith
+pub refuses_only : {P : Type 0} {r : Result Shape Refusal} {why : Refusal} {found : Shape} → r ≡ Err why → r ≡ Ok found → P
+refuses_only e q = absurd (let z : ◌≡◌ {A = ℕ} 0 1 = cc in omega arith)
 
 -- a root has a table of the costs
 cost-table : (cs : List ℕ) → table 256 (λ j. get_or (table 256 (λ k. get_or cs k 0)) j 0) ≡ table 256 (λ j. get_or cs j 0)
@@ -86,5 +86,5 @@ module _ (file : List ℕ) (found : Shape) (prices : List ℤ) (lengths numbers 
 
   pub loaded_as : (l costs : List ℕ) → length l ≡ 8516 → costs ≡ front (instance (parse file)).costs (replicate 256 0) →
       Holds l (stated found.rows (take (found.columns - 0) lengths) (take (found.entries - 0) numbers)) →
-      (told : Shape) → accept found ≡ accept told → Loaded file told l costs
+      (told : Shape) → ◌≡◌ {A = Result Shape Refusal} (Ok found) (Ok told) → Loaded file told l costs
   loaded_as l costs long raised o told e = let q : found ≡ told = cc in rw (← q) (loaded l costs long raised o)

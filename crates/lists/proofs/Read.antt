@@ -15,9 +15,8 @@ use Rattle.dutyfile.specs.File.{columns_in, entries, cost_of, size_of, parse, ra
 use Rattle.dutyfile.specs.Faults.{file_fault, rooms_fault, reading, contents_fault}
 use Rattle.dutyfile.proofs.Entries.{length-entries}
 use Rattle.dutyfile.proofs.Facts.{Accepted, file-fine, fine-file, all_pass, contents-small, length-numbers}
-use Rattle.examine.specs.declared.ReadAnswer.{ReadAnswer}
-use Rattle.examine.specs.declared.ReadAnswer.TheVariants.{Accepted as accept, Refused as refuse}
-use Rattle.examine.specs.Answer.{read_outcome}
+use Rattle.std.specs.Prelude.{Result, Ok, Err}
+use Rattle.refusals.specs.Refusals.{outcome}
 use Rattle.raising.specs.Priced.{AllPriced}
 use Rattle.matrix.specs.Stated.{stated, Statable}
 use Rattle.matrix.proofs.Accepted.{parse-edition, file_is, file-wide, file_statable, file-priced, raised-count, file-costs}
@@ -98,35 +97,35 @@ accepted-listed s a costs lengths numbers c d k =
       cheap = file-costs s a;
     }
 
-module _ (s : List ℕ) (r : ReadAnswer) where
-  pub file_alone : (old : List ℤ) (old' old'' : List ℕ) → Places old old' old'' → read_outcome r ≡ reading s (length old) (length old') (length old'') →
-      read_outcome r ≡ unless (file_fault s) (shape s)
+module _ (s : List ℕ) (r : Result Shape Refusal) where
+  pub file_alone : (old : List ℤ) (old' old'' : List ℕ) → Places old old' old'' → outcome r ≡ reading s (length old) (length old') (length old'') →
+      outcome r ≡ unless (file_fault s) (shape s)
   file_alone old old' old'' places told = rw (places.costs_long, places.lengths_long, places.numbers_long) at told ∙ reading_local s
 
-  module _ (says : read_outcome r ≡ unless (file_fault s) (shape s)) where
-    pub file-refused : (w : Refusal) → r ≡ refuse w → file_fault s ≡ fault (number_of w)
-    unfolding read_outcome
+  module _ (says : outcome r ≡ unless (file_fault s) (shape s)) where
+    pub file-refused : (w : Refusal) → r ≡ Err w → file_fault s ≡ fault (number_of w)
+    unfolding outcome
     file-refused w e =
         let t : refused (number_of w) ≡ unless (file_fault s) (shape s) = rw e at says in
         refuses _ _ (number_of w) (sym t)
 
-    module _ (found : Shape) (e : r ≡ accept found) where
+    module _ (found : Shape) (e : r ≡ Ok found) where
       tells : (file_fault s ≡ fine) × (shape s ≡ found)
-      unfolding read_outcome
+      unfolding outcome
       tells =
           let t : accepted found ≡ unless (file_fault s) (shape s) = rw e at says in
           accepts _ _ _ (sym t)
 
-      pub filled_is : {A : Type 0} (new old now : List A) → now ≡ filled (read_outcome r) new old → now ≡ front new old
-      unfolding read_outcome
+      pub filled_is : {A : Type 0} (new old now : List A) → now ≡ filled (outcome r) new old → now ≡ front new old
+      unfolding outcome
       filled_is new old now h = h ∙ fills found new old (rw e)
 
-      filled-front : {A : Type 0} (new old now : List A) (n : ℕ) → now ≡ filled (read_outcome r) new old → length new ≡ n → take n now ≡ new
+      filled-front : {A : Type 0} (new old now : List A) (n : ℕ) → now ≡ filled (outcome r) new old → length new ≡ n → take n now ≡ new
       filled-front new old now n h k = ap (take n) (filled_is new old now h) ∙ front-take new old n k
 
       module _ (old : List ℤ) (old' old'' : List ℕ) (costs : List ℤ) (lengths numbers : List ℕ)
-          (h : costs ≡ filled (read_outcome r) (parse s).costs old) (l : lengths ≡ filled (read_outcome r) (parse s).lengths old')
-          (n : numbers ≡ filled (read_outcome r) (parse s).numbers old'') where
+          (h : costs ≡ filled (outcome r) (parse s).costs old) (l : lengths ≡ filled (outcome r) (parse s).lengths old')
+          (n : numbers ≡ filled (outcome r) (parse s).numbers old'') where
         pub file_fronts : Fronts s found costs lengths numbers
         unfolding shape
         file_fronts =

@@ -1,21 +1,19 @@
 // A file read as the list of its matrix and a table of its costs in a search.
 #![tactic(auto)]
 
-ghost use Rattle.std.specs.Prelude.{◌≡◌, pos, length, replicate};
-ghost use Rattle.refusals.specs.Refusals.{unless, front, filled};
+ghost use Rattle.std.specs.Prelude.{◌≡◌, pos, length, replicate, Ok, Err};
+ghost use Rattle.refusals.specs.Refusals.{unless, outcome, front, filled};
 ghost use Rattle.refusals.specs.declared.Refusal.{Refusal};
 ghost use Rattle.dutyfile.specs.declared.Shape.{Shape};
 ghost use Rattle.dutyfile.specs.File.{parse, raised_all, instance, shape};
 ghost use Rattle.dutyfile.specs.Faults.{file_fault};
-ghost use Rattle.examine.specs.declared.ReadAnswer.TheVariants.{Accepted, Refused};
-ghost use Rattle.examine.specs.Answer.{read_outcome};
 ghost use Rattle.matrix.specs.Stated.{stated, Statable, Holds};
 ghost use Rattle.raising.specs.Priced.{AllPriced};
 ghost use Rattle.lists.specs.Places.{Places};
 ghost use Rattle.lists.specs.Loaded.{Loaded};
 
-use dutyfile::Edition;
-use examine::ReadAnswer;
+use dutyfile::{Edition, Shape};
+use refusals::Refusal;
 
 // Places for n costs in the file, n body lengths and t row numbers.
 pub fn no_prices() -> [i32; 256]
@@ -42,12 +40,12 @@ pub fn read_lists(
     costs: &mut [i32],
     lengths: &mut [u16],
     numbers: &mut [u8],
-) -> ReadAnswer
+) -> Result<Shape, Refusal>
     requires { Places costs.old lengths.old numbers.old }
-    ensures result_value { read_outcome result ≡ unless (file_fault file.now) (shape file.now) }
-    ensures costs_after { costs.new ≡ filled (read_outcome result) (parse file.now).costs costs.old }
-    ensures lengths_after { lengths.new ≡ filled (read_outcome result) (parse file.now).lengths lengths.old }
-    ensures numbers_after { numbers.new ≡ filled (read_outcome result) (parse file.now).numbers numbers.old }
+    ensures result_value { outcome result ≡ unless (file_fault file.now) (shape file.now) }
+    ensures costs_after { costs.new ≡ filled (outcome result) (parse file.now).costs costs.old }
+    ensures lengths_after { lengths.new ≡ filled (outcome result) (parse file.now).lengths lengths.old }
+    ensures numbers_after { numbers.new ≡ filled (outcome result) (parse file.now).numbers numbers.old }
 {
     reader::read(file, costs, lengths, numbers)
 }
@@ -70,31 +68,34 @@ fn fill_costs(edition: Edition, prices: &[i32], lengths: &[u16], costs: &mut [u3
 }
 
 // Reads a file: the list of its matrix, and its costs in a search; or a refusal, with both as they were.
-pub fn read_matrix(file: &[u8], matrix: &mut [u16; 8516], costs: &mut [u32; 256]) -> ReadAnswer
+pub fn read_matrix(
+    file: &[u8],
+    matrix: &mut [u16; 8516],
+    costs: &mut [u32; 256],
+) -> Result<Shape, Refusal>
     requires { costs.old ≡ replicate 256 0 }
-    ensures result_value { read_outcome result ≡ unless (file_fault file.now) (shape file.now) }
-    ensures costs_after { costs.new ≡ filled (read_outcome result) (instance (parse file.now)).costs costs.old }
-    ensures matrix_unchanged { (why : Refusal) → result ≡ Refused why → matrix.new ≡ matrix.old }
-    ensures loaded { (found : Shape) → result ≡ Accepted found → Loaded file.now found matrix.new costs.new }
+    ensures result_value { outcome result ≡ unless (file_fault file.now) (shape file.now) }
+    ensures costs_after { costs.new ≡ filled (outcome result) (instance (parse file.now)).costs costs.old }
+    ensures matrix_unchanged { (why : Refusal) → result ≡ Err why → matrix.new ≡ matrix.old }
+    ensures loaded { (found : Shape) → result ≡ Ok found → Loaded file.now found matrix.new costs.new }
 {
     let mut prices = no_prices();
     let mut lengths = no_lengths();
     let mut numbers = no_numbers();
-    let found = read_lists(file, &mut prices, &mut lengths, &mut numbers);
-    match found {
-        ReadAnswer::Refused(why) => ReadAnswer::Refused(why),
-        ReadAnswer::Accepted(shape) => {
-            let edition = shape.edition;
-            let columns = shape.columns;
-            let entries = shape.entries;
-            fill_matrix(
-                shape.rows,
-                &lengths[0..columns],
-                &numbers[0..entries],
-                matrix,
-            );
-            fill_costs(edition, &prices[0..columns], &lengths[0..columns], costs);
-            ReadAnswer::Accepted(shape)
-        }
-    }
+    let found = read_lists(file, &mut prices, &mut lengths, &mut numbers)?;
+    let columns = found.columns;
+    let entries = found.entries;
+    fill_matrix(
+        found.rows,
+        &lengths[0..columns],
+        &numbers[0..entries],
+        matrix,
+    );
+    fill_costs(
+        found.edition,
+        &prices[0..columns],
+        &lengths[0..columns],
+        costs,
+    );
+    Ok(found)
 }

@@ -16,7 +16,7 @@ use Rattle.node.specs.Passes.{carry}
 use Rattle.node.specs.Matrix.{Matrix, width, covers}
 use Rattle.node.specs.Stored.{row_columns}
 use Rattle.node.proofs.Members.{kept, member-at, length_from}
-use Rattle.node.proofs.Passes.{Carrying, carrying_start, carrying_next, carrying_end}
+use Rattle.node.proofs.Passes.{Carrying, carrying_next, carrying_end}
 use Rattle.node.specs.View.{view}
 use Rattle.node.specs.Node.{is_free, cost_at}
 use Rattle.rules.specs.Reduce as rules
@@ -40,14 +40,8 @@ pub record Lowering (column cost : List ℕ) (a : ℕ) (row out : List ℕ) (k :
   pub left : Carrying (lower_one column cost a) row cost out k
   pub same : (n : ℕ) → k ≤ n → n < length row → get_or out (get_or row n 0) 0 ≡ get_or cost (get_or row n 0) 0
 
-pub lowering_start : (column cost : List ℕ) (a : ℕ) (row : List ℕ) → Lowering column cost a row cost 0
-lowering_start column cost a row = record { left = carrying_start _ _ _; same = λ n h l. refl }
-
 module _ (column cost : List ℕ) (a : ℕ) (row out : List ℕ) (k : ℕ) (w : Lowering column cost a row out k) where
   module _ (inside : k < length row) where
-    pub lowering_covers : Covered column cost a row → get_or column (get_or row k 0) 0 ≡ 1 → a ≤ get_or out (get_or row k 0) 0
-    lowering_covers c h = omega (arith, w.same k (omega arith) inside, c k inside h)
-
     pub lowering_free : Rising row → get_or column (get_or row k 0) 0 ≡ 1 →
         Lowering column cost a row (set out (get_or row k 0) (get_or out (get_or row k 0) 0 - a)) (k + 1)
     lowering_free r h =

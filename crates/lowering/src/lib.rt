@@ -1,7 +1,7 @@
 // Reducing a node: the step, and the loop that ends when no candidate is left.
 #![tactic(auto)]
 
-ghost use Rattle.std.specs.Prelude.{◌≡◌, [], replicate};
+ghost use Rattle.std.specs.Prelude.{◌≡◌, []};
 ghost use Rattle.node.specs.View.{view};
 ghost use Rattle.node.specs.Stored.{matrix_in, Columns};
 ghost use Rattle.rules.specs.Reduce as rules;
@@ -25,12 +25,10 @@ fn lower_costs(cost: &mut [u32; 256], column: &[u8; 256], row: &[u16], amount: u
     requires { Covered column.now cost.old amount row.now × Rising row.now × Columns row.now }
     ensures { cost.new ≡ lower_at column.now cost.old amount row.now cost.old }
 {
-    let mut k = 0;
-    while k < row.len() {
-        let j = row[k] as usize;
-        k += 1;
+    for &j in row {
+        let j = usize::from(j);
         if column[j] == 1 {
-            cost[j] = cost[j] - amount;
+            cost[j] -= amount;
         }
     }
 }
@@ -40,15 +38,7 @@ fn lower(cost: &mut [u32; 256], column: &[u8; 256], matrix: &[u16], i: usize, am
     requires { Lowerable cost.old column.now matrix.now i amount }
     ensures { cost.new ≡ (rules.lower (matrix_in matrix.now) (view cost.old column.now []) i amount).cost }
 {
-    let row = row_part(matrix, i);
-    lower_costs(cost, column, row, amount);
-}
-
-// Places for the rows used.
-fn no_rows() -> [u8; 64]
-    ensures { result ≡ replicate 64 0 }
-{
-    [0u8; 64]
+    lower_costs(cost, column, row_part(matrix, i), amount);
 }
 
 // Reduces a node: while there is a candidate, the best one is used. Rows that can be candidates no more lose their marks in a table
@@ -57,27 +47,22 @@ pub fn reduce_node(mut node: Node, matrix: &[u16]) -> Reduction
     requires { Workable matrix.now node }
     ensures { Done (matrix_in matrix.now) node result }
 {
-    let column = node.column;
     let mut left = node.row;
-    let mut used = no_rows();
+    let mut used = [0u8; 64];
     let mut count: usize = 0;
     let mut best = best_candidate(&node.cost, &node.column, &mut left, matrix);
     while best.cost != 0 {
         lower(
             &mut node.cost,
-            &column,
+            &node.column,
             matrix,
             best.row as usize,
             best.cost,
         );
-        node.bound = node.bound + best.cost;
+        node.bound += best.cost;
         used[count] = (best.row + 1) as u8;
         count += 1;
         best = best_candidate(&node.cost, &node.column, &mut left, matrix);
     }
-    Reduction {
-        node: node,
-        used: used,
-        count: count,
-    }
+    Reduction { node, used, count }
 }

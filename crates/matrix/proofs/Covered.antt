@@ -23,9 +23,6 @@ pub record Marking (j : ℕ) (rs cover₀ cover : List ℕ) (k : ℕ) : Type 0 w
   pub rows : Body rs
   pub left : marked j (drop k rs) cover ≡ marked j rs cover₀
 
-pub marking_start : (j : ℕ) (rs cover : List ℕ) → (j < 256) × Body rs → Marking j rs cover cover 0
-marking_start j rs cover h = record { column = h.0; rows = h.1; left = refl }
-
 module _ (j : ℕ) (rs cover₀ cover : List ℕ) (k : ℕ) (w : Marking j rs cover₀ cover k) where
   pub marking_next : k < length rs → Marking j rs cover₀ (set cover (place (get_or rs k 0 - 1) j) 1) (k + 1)
   unfolding marked

@@ -2,7 +2,7 @@
 use mathlib.Core.Path.{◌≡◌, refl, ap, sym, ◌∙◌}
 use mathlib.Core.List.{List, [], ◌∷◌, map}
 use Prim.Native.Nat.{ℕ, suc, ◌+◌, ◌-◌, ◌≤◌, ◌<◌}
-use native.Mathlib.Nat.{add-zero, sub-zero}
+use native.Mathlib.Nat.{add-zero}
 use native.Mathlib.Numerals.{add-one}
 use native.Mathlib.Omega.{arith}
 use lib.ListN.{length, get_or, set, take, drop, drop_of_length-le, length-take, length-drop}
@@ -12,7 +12,7 @@ use Rattle.node.specs.Stored.{Body}
 use Rattle.node.proofs.Loops.{drop-step, from_next}
 use Rattle.dutyfile.specs.File.{sum, bodies}
 use Rattle.dutyfile.proofs.Columns.{length-bodies, body_at}
-use Rattle.matrix.specs.Build.{put, size, marked, all_marked, marks_of, all_marks, Room, RowRoom}
+use Rattle.matrix.specs.Build.{put, size, marked, all_marked, marks_of, all_marks, Room}
 use Rattle.matrix.proofs.Sums.{sum_more, sum_take_le}
 
 -- at row number k of a body
@@ -128,16 +128,6 @@ pub record PuttingRows (cover : List ℕ) (columns rows : ℕ) (matrix₀ : List
   pub within : i ≤ rows
   pub left : put matrix (2 + i) end (left-rows cover columns rows i) ≡ put matrix₀ 2 at (all_marks cover columns rows)
   pub room : end + size (left-rows cover columns rows i) ≤ 8516
-
-pub rows_start : (cover : List ℕ) (columns rows : ℕ) (matrix : List ℕ) (at : ℕ) → RowRoom cover columns rows at →
-    PuttingRows cover columns rows matrix at matrix at 0
-rows_start cover columns rows matrix at r = record {
-  few = r.few;
-  low = r.low;
-  within = omega arith;
-  left = rw sub-zero;
-  room = rw sub-zero r.full;
-}
 
 module _ (cover : List ℕ) (columns rows : ℕ) (matrix₀ : List ℕ) (at : ℕ) (matrix : List ℕ) (end i : ℕ)
     (w : PuttingRows cover columns rows matrix₀ at matrix end i) where

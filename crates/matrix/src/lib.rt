@@ -1,7 +1,7 @@
 // The list that keeps a matrix, built once from the lists of a file.
 #![tactic(auto)]
 
-ghost use Rattle.std.specs.Prelude.{◌≡◌, ◌+◌, ◌≤◌, ◌<◌, length, replicate};
+ghost use Rattle.std.specs.Prelude.{◌≡◌, ◌+◌, ◌≤◌, ◌<◌, length};
 ghost use Rattle.std.proofs.lemmas.List.Edits.{sets};
 ghost use Rattle.node.specs.Stored.{Body};
 ghost use Rattle.dutyfile.specs.File.{bodies};
@@ -15,22 +15,13 @@ pub fn no_cells() -> [u16; 8516]
     [0u16; 8516]
 }
 
-// A table of 64 rows of 256 columns, without marks.
-fn no_marks() -> [u8; 16384]
-    ensures { result ≡ replicate 16384 0 }
-{
-    [0u8; 16384]
-}
-
 // Puts a body into the list.
 fn put_body(matrix: &mut [u16; 8516], at: usize, body: &[u8])
     requires { at + length body.now ≤ 8516 }
     ensures { matrix.new ≡ sets matrix.old at body.now }
 {
-    let mut k = 0;
-    while k < body.len() {
-        matrix[at + k] = body[k] as u16;
-        k += 1;
+    for (k, &row) in body.iter().enumerate() {
+        matrix[at + k] = row as u16;
     }
 }
 
@@ -39,11 +30,8 @@ fn mark_column(cover: &mut [u8; 16384], body: &[u8], j: usize)
     requires { (j < 256) × Body body.now }
     ensures { cover.new ≡ marked j body.now cover.old }
 {
-    let mut k = 0;
-    while k < body.len() {
-        let row = body[k] as usize;
-        cover[256 * (row - 1) + j] = 1;
-        k += 1;
+    for &row in body {
+        cover[256 * (row as usize - 1) + j] = 1;
     }
 }
 
@@ -53,20 +41,17 @@ fn put_bodies(matrix: &mut [u16; 8516], cover: &mut [u8; 16384], lengths: &[u16]
     ensures matrix_after { matrix.new ≡ put matrix.old 67 324 (bodies lengths.now numbers.now) }
     ensures cover_after { cover.new ≡ all_marked 0 (bodies lengths.now numbers.now) cover.old }
 {
-    let columns = lengths.len();
     let mut start = 0;
-    let mut j = 0;
-    while j < columns {
+    for (j, &length) in lengths.iter().enumerate() {
         let at = 324 + start;
         matrix[67 + j] = at as u16;
-        let end = start + lengths[j] as usize;
+        let end = start + length as usize;
         let body = &numbers[start..end];
         put_body(matrix, at, body);
         mark_column(cover, body, j);
         start = end;
-        j += 1;
     }
-    matrix[67 + columns] = (324 + start) as u16;
+    matrix[67 + lengths.len()] = (324 + start) as u16;
 }
 
 // Puts the columns that are marked in a row into the list, from a place on, and gives the place after them.
@@ -82,12 +67,9 @@ fn put_row(
     ensures matrix_after { matrix.new ≡ sets matrix.old at (marks_of cover.now columns row) }
 {
     let mut end = at;
-    let mut j = 0;
-    while j < columns {
-        let column = j;
-        j += 1;
-        if cover[256 * row + column] == 1 {
-            matrix[end] = column as u16;
+    for j in 0..columns {
+        if cover[256 * row + j] == 1 {
+            matrix[end] = j as u16;
             end += 1;
         }
     }
@@ -100,11 +82,9 @@ fn put_rows(matrix: &mut [u16; 8516], at: usize, cover: &[u8; 16384], columns: u
     ensures { matrix.new ≡ put matrix.old 2 at (all_marks cover.now columns rows) }
 {
     let mut end = at;
-    let mut i = 0;
-    while i < rows {
+    for i in 0..rows {
         matrix[2 + i] = end as u16;
         end = put_row(matrix, end, cover, columns, i);
-        i += 1;
     }
     matrix[2 + rows] = end as u16;
 }
@@ -117,7 +97,7 @@ pub fn matrix_list(rows: usize, lengths: &[u16], numbers: &[u8]) -> [u16; 8516]
     let columns = lengths.len();
     let end = 324 + numbers.len();
     let mut matrix = no_cells();
-    let mut cover = no_marks();
+    let mut cover = [0u8; 16384];
     matrix[0] = rows as u16;
     matrix[1] = columns as u16;
     put_bodies(&mut matrix, &mut cover, lengths, numbers);

@@ -3,7 +3,7 @@
 use mathlib.Core.Path.{◌≡◌, refl, ap, sym, ◌∙◌}
 use mathlib.Core.Bool.{Bool, true, false, ◌&&◌, false≢true}
 use mathlib.Core.List.{List, [], map}
-use Prim.Native.Nat.{ℕ, zero, suc, ◌+◌, ◌-◌, ◌≤◌, ◌<◌}
+use Prim.Native.Nat.{ℕ, zero, suc, ◌+◌, ◌≤◌, ◌<◌}
 use native.Mathlib.Nat.{add-zero, zero-add}
 use native.Mathlib.Omega.{arith}
 use lib.ListN.{length, get_or, length-map, length-take, get_or-eq_default}
@@ -13,7 +13,7 @@ use Rattle.node.specs.declared.Node.{Node}
 use Rattle.node.specs.Lists.{keep, from, upto, member}
 use Rattle.node.specs.Node.{is_free, free_columns, free_of}
 use Rattle.node.specs.Matrix.{Matrix, width, columns, body, span, covers}
-use Rattle.node.specs.Stored.{Small, body_in, matrix_in, HasRow, HasColumn, HasBody, Columns, Body, InRows, row_columns}
+use Rattle.node.specs.Stored.{Small, body_in, matrix_in, HasRow, HasColumn, Columns, Body, InRows, row_columns}
 use Rattle.node.proofs.Members.{and_both, same_bool, kept, upto_lt, member-at, member-keep, member-upto, keep-upto, keep_swap, length_from}
 
 -- the matrix that a list holds, by its parts
@@ -47,12 +47,6 @@ module _ (l : List ℕ) (j : ℕ) (t : HasColumn l j) where
 
   pub span-low : span (matrix_in l) j ≤ get_or l (67 + j + 1) 0
   span-low = rw (← body_in_lem l j t.column) (simp length-take (omega arith))
-
--- a row number of a body
-pub body-row : (l rs : List ℕ) → HasBody l rs → (k : ℕ) → k < length rs → HasRow l (get_or rs k 0 - 1)
-body-row l rs t k h =
-    let n = t.numbered k h in
-    record { kept = t.kept; row = omega (arith, n.0, n.1) }
 
 module _ (p : Matrix) where
   pub body_in_rows : Small p → (j : ℕ) → j < width p → InRows p (body p j)

@@ -21,9 +21,6 @@ use Rattle.node.proofs.Loops.{drop-step, take_in, take_out, drop_in, drop_out, d
 pub record Carrying {A : Type 0} (f : A → ℕ → A) (l : List ℕ) (a₀ a : A) (k : ℕ) : Type 0 where
   pub left : carry f a (drop k l) ≡ carry f a₀ l
 
-pub carrying_start : {A : Type 0} (f : A → ℕ → A) (l : List ℕ) (a : A) → Carrying f l a a 0
-carrying_start f l a = record { left = refl }
-
 module _ {A : Type 0} (f : A → ℕ → A) (l : List ℕ) (a₀ a : A) (k : ℕ) (w : Carrying f l a₀ a k) where
   pub carrying_next : k < length l → (next : A) → next ≡ f a (get_or l k 0) → Carrying f l a₀ next (k + 1)
   unfolding carry

@@ -25,7 +25,7 @@ pub fn row_count(matrix: &[u16]) -> usize
     requires { Kept matrix.now }
     ensures { result ≡ (matrix_in matrix.now).rows }
 {
-    matrix[0] as usize
+    usize::from(matrix[0])
 }
 
 // How many columns a matrix has.
@@ -33,7 +33,7 @@ pub fn column_count(matrix: &[u16]) -> usize
     requires { Kept matrix.now }
     ensures { result ≡ width (matrix_in matrix.now) }
 {
-    matrix[1] as usize
+    usize::from(matrix[1])
 }
 
 // The part of a matrix that starts where place k says.
@@ -41,8 +41,8 @@ fn part(matrix: &[u16], k: usize) -> &[u16]
     requires { (k + 1 < length matrix.now) × Part matrix.now k }
     ensures { result.now ≡ part_at matrix.now k }
 {
-    let start = matrix[k] as usize;
-    let end = matrix[k + 1] as usize;
+    let start = usize::from(matrix[k]);
+    let end = usize::from(matrix[k + 1]);
     &matrix[start..end]
 }
 
@@ -67,8 +67,7 @@ pub fn column_size(matrix: &[u16], j: usize) -> u32
     requires { HasColumn matrix.now j }
     ensures { result ≡ span (matrix_in matrix.now) j }
 {
-    let body = column_part(matrix, j);
-    body.len() as u32
+    column_part(matrix, j).len() as u32
 }
 
 // Closes the rows of a body.
@@ -76,11 +75,8 @@ fn close_rows(row: &mut [u8; 64], body: &[u16])
     requires { Body body.now }
     ensures { row.new ≡ closed body.now row.old }
 {
-    let mut k = 0;
-    while k < body.len() {
-        let r = body[k] as usize;
-        row[r - 1] = 0;
-        k += 1;
+    for &r in body {
+        row[usize::from(r) - 1] = 0;
     }
 }
 
@@ -89,10 +85,8 @@ fn drop_columns(column: &mut [u8; 256], columns: &[u16])
     requires { Columns columns.now }
     ensures { column.new ≡ all_dropped columns.now column.old }
 {
-    let mut k = 0;
-    while k < columns.len() {
-        let j = columns[k] as usize;
-        k += 1;
+    for &j in columns {
+        let j = usize::from(j);
         if column[j] == 1 {
             column[j] = 0;
         }
@@ -104,12 +98,8 @@ fn drop_rows(column: &mut [u8; 256], body: &[u16], matrix: &[u16])
     requires { HasBody matrix.now body.now }
     ensures { column.new ≡ rows_dropped (matrix_in matrix.now) body.now column.old }
 {
-    let mut k = 0;
-    while k < body.len() {
-        let r = body[k] as usize;
-        let row = row_part(matrix, r - 1);
-        drop_columns(column, row);
-        k += 1;
+    for &r in body {
+        drop_columns(column, row_part(matrix, usize::from(r) - 1));
     }
 }
 

@@ -84,9 +84,6 @@ pub record Settling (g : Goal) (side l : List ℕ) (s n : Node) : Type 0 where
   pub some : WorkableWith g side l n
   pub left : (search_with g side (matrix_in l)).settle n ≡ (search_with g side (matrix_in l)).settle s
 
-pub settling_start : (g : Goal) (side l : List ℕ) (s : Node) → WorkableWith g side l s → Settling g side l s s
-settling_start g side l s w = record { some = w; left = refl }
-
 -- what the open rows ask
 module _ (g : Goal) (side l : List ℕ) (s n : Node) (w : Settling g side l s n) (found : Asked)
     (told : found ≡ asked (matrix_in l) (view [] n.column n.row)) where

@@ -9,7 +9,7 @@ ghost use Rattle.rules.specs.Goals.{search_for, search_with};
 ghost use Rattle.rules.specs.Pairs.{pair, pairs_of, pair_asked, pass};
 ghost use Rattle.rules.proofs.Numbers.{Numbers};
 ghost use Rattle.rules.proofs.Sides.{WorkableWith};
-ghost use Rattle.pairs.specs.Asks.{asks, some_asks, node_after};
+ghost use Rattle.pairs.specs.Asks.{some_asks, node_after};
 
 use forcing::open_rows_ask;
 use goals::join;
@@ -38,30 +38,14 @@ fn pair_asks(column: &[u8; 256], first: usize, second: usize) -> PairAsked
     }
 }
 
-// Whether anything is asked.
-fn is_asked(asked: PairAsked) -> bool
-    ensures { result ≡ asks asked }
-{
-    match asked {
-        PairAsked::TakeSecond => true,
-        PairAsked::Dead => true,
-        PairAsked::LeaveFirst => true,
-        PairAsked::Nothing => false,
-    }
-}
-
 // Whether some pair asks anything of a node with these marks.
 fn some_asks(column: &[u8; 256], pairs: &[u16]) -> bool
     requires { Numbers 256 pairs.now }
     ensures { result ≡ some_asks column.now (pairs_of pairs.now) }
 {
-    let mut k = 0;
-    while k + 1 < pairs.len() {
-        let first = pairs[k] as usize - 1;
-        let second = pairs[k + 1] as usize - 1;
-        k += 2;
-        let asked = pair_asks(column, first, second);
-        if is_asked(asked) {
+    for &[first, second] in pairs.as_chunks::<2>().0 {
+        let asked = pair_asks(column, first as usize - 1, second as usize - 1);
+        if !matches!(asked, PairAsked::Nothing) {
             return true;
         }
     }
@@ -73,13 +57,10 @@ fn pass_pairs(goal: Goal, mut s: Node, matrix: &[u16], pairs: &[u16]) -> Forced
     requires { WorkableWith goal pairs.now matrix.now s }
     ensures { (let p : Matrix = matrix_in matrix.now in result ≡ node_after (pass (search_for goal p).join p (pairs_of pairs.now) s false)) }
 {
-    let mut k = 0;
-    while k + 1 < pairs.len() {
-        let first = pairs[k] as usize - 1;
-        let second = pairs[k + 1] as usize - 1;
-        k += 2;
-        let asked = pair_asks(&s.column, first, second);
-        match asked {
+    for &[first, second] in pairs.as_chunks::<2>().0 {
+        let first = first as usize - 1;
+        let second = second as usize - 1;
+        match pair_asks(&s.column, first, second) {
             PairAsked::TakeSecond => {
                 let bound = join(goal, s.bound, s.cost[second]);
                 s = s.take(second, bound, matrix);
@@ -90,9 +71,7 @@ fn pass_pairs(goal: Goal, mut s: Node, matrix: &[u16], pairs: &[u16]) -> Forced
                     alive: false,
                 };
             }
-            PairAsked::LeaveFirst => {
-                s = s.leave(first);
-            }
+            PairAsked::LeaveFirst => s = s.leave(first),
             PairAsked::Nothing => {}
         }
     }

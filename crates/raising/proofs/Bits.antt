@@ -1,19 +1,13 @@
 -- A raised cost is the sum of the bits of a cost and the shift, wrapping.
-use Rattle.std.proofs.Common.{◌≡◌, ℕ, suc, ◌+◌, ◌*◌, ◌%◌, ◌≤◌, ℤ, pos, negsuc, arith, le-ltb}
+use Rattle.std.proofs.Common.{◌≡◌, ℕ, suc, ◌+◌, ◌*◌, ◌%◌, ℤ, pos, negsuc, arith, le-ltb, w32, of_z}
 use mathlib.Core.Bool.{false≢true}
-use Rattle.signed.specs.Signed.{bits}
 use Rattle.dutyfile.specs.declared.Edition.{Edition}
 use Rattle.dutyfile.specs.declared.Edition.TheVariants.{Spp1, Spp2}
 use Rattle.dutyfile.specs.File.{shift, raised}
 use Rattle.dutyfile.proofs.Costs.{above, beneath}
 use Rattle.raising.specs.Priced.{Priced}
 
-pub shift-least : (ed : Edition) (n : ℕ) → n ≤ 64 → shift ed n ≤ 64000000
-unfolding shift
-shift-least Spp1 n h = omega arith
-shift-least Spp2 n h = omega arith
-
-pub raised-bits : (ed : Edition) (c : ℤ) (l x y r : ℕ) → Priced ed c l → x ≡ bits c → y ≡ shift ed l → r ≡ (x + y) % 4294967296 → r ≡ raised ed c l
+pub raised-bits : (ed : Edition) (c : ℤ) (l x y r : ℕ) → Priced ed c l → x ≡ of_z w32 c → y ≡ shift ed l → r ≡ (x + y) % 4294967296 → r ≡ raised ed c l
 unfolding raised shift
 raised-bits Spp1 (pos n) l x y r p e s f = omega (arith, above Spp1 n p.cost)
 raised-bits Spp2 (pos n) l x y r p e s f = omega (arith, above Spp2 n p.cost, p.most)

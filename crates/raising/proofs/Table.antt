@@ -8,7 +8,7 @@ use Rattle.refusals.proofs.Laws.{front-sets}
 use Rattle.dutyfile.specs.declared.Edition.{Edition}
 use Rattle.dutyfile.specs.File.{raised, raised_all}
 use Rattle.dutyfile.proofs.Costs.{cost-fits, raised_long, raised_at}
-use Rattle.raising.specs.Priced.{Priced, AllPriced}
+use Rattle.raising.specs.Priced.{AllPriced}
 
 module _ (ed : Edition) (cs : List ℤ) (ls : List ℕ) where
   abbrev all : List ℕ
@@ -30,15 +30,9 @@ module _ (ed : Edition) (cs : List ℤ) (ls : List ℕ) where
   }
 
   module _ (t : List ℕ) (j : ℕ) (w : Filling t j) where
-    pub filling_place : j < length cs → (j < 256) × (j < length ls)
-    filling_place h = (omega (arith, w.priced.wide), omega (arith, w.priced.same))
-
     -- a cost as it is read from the list
     read : j < length cs → to_z w32 (of_z w32 (get_or cs j (pos 0))) ≡ get_or cs j (pos 0)
     read h = to_z-of_z (cost-fits ed _ (w.priced.each j h).cost)
-
-    pub filling_priced : j < length cs → Priced ed (to_z w32 (of_z w32 (get_or cs j (pos 0)))) (get_or ls j 0)
-    filling_priced h = rw (read h) (w.priced.each j h)
 
     pub filling_next : j < length cs → (c : ℕ) → c ≡ raised ed (to_z w32 (of_z w32 (get_or cs j (pos 0)))) (get_or ls j 0) → Filling (set t j c) (j + 1)
     filling_next h c e =

@@ -24,7 +24,7 @@ fn raised(edition: Edition, cost: i32, size: usize) -> u32
     requires { Priced edition cost size }
     ensures { result ≡ raised edition cost size }
 {
-    std::num::wrapping_add_u32(signed::to_bits(cost), shift(edition, size))
+    shift(edition, size).wrapping_add_signed(cost)
 }
 
 // Places for the costs of a search, with all costs 0.
@@ -40,11 +40,8 @@ pub fn raise_all(edition: Edition, costs: &[i32], lengths: &[u16]) -> [u32; 256]
     ensures { result ≡ front (raised_all edition costs.now lengths.now) (replicate 256 0) }
 {
     let mut table = no_costs();
-    let mut j = 0;
-    while j < costs.len() {
-        let cost = raised(edition, costs[j], lengths[j] as usize);
-        table[j] = cost;
-        j += 1;
+    for (j, &cost) in costs.iter().enumerate() {
+        table[j] = raised(edition, cost, lengths[j] as usize);
     }
     table
 }

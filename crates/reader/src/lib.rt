@@ -2,14 +2,12 @@
 #![tactic(auto)]
 
 ghost use Rattle.std.specs.Prelude.{◌≡◌, ◌+◌, ◌*◌, ◌≤◌, length};
-ghost use Rattle.refusals.specs.Refusals.{fine, fault_of, front, filled};
+ghost use Rattle.refusals.specs.Refusals.{fine, fault_of, outcome, front, filled};
 ghost use Rattle.dutyfile.specs.File.{columns_in, parse};
 ghost use Rattle.dutyfile.specs.Faults.{header_fault, rooms_fault, reading};
-ghost use Rattle.examine.specs.Answer.{read_outcome};
 
 use dutyfile::Shape;
-use examine::ReadAnswer;
-use refusals::{Check, Refusal};
+use refusals::Refusal;
 
 // The costs and the body lengths of all columns, at the front of the lists.
 fn fill_columns(file: &[u8], costs: &mut [i32], lengths: &mut [u16])
@@ -21,13 +19,11 @@ fn fill_columns(file: &[u8], costs: &mut [i32], lengths: &mut [u16])
 {
     let columns = dutyfile::column_count(file);
     let table = contents::entries(file, columns);
-    let mut k = 0;
-    while k < columns {
+    for k in 0..columns {
         let e = table[k];
         let cost = signed::from_bits(e.cost);
         costs[k] = cost;
         lengths[k] = e.size;
-        k += 1;
     }
 }
 
@@ -43,41 +39,36 @@ fn fill_rows(file: &[u8], rows: &mut [u8])
 }
 
 // Test 10, for lists of so many places.
-fn check_rooms(found: Shape, costs: usize, lengths: usize, rows: usize) -> Check
+fn check_rooms(found: Shape, costs: usize, lengths: usize, rows: usize) -> Result<(), Refusal>
     ensures { fault_of result ≡ rooms_fault found costs lengths rows }
 {
     if costs < found.columns {
-        return Check::Failed(Refusal::Room);
+        return Err(Refusal::Room);
     }
     if lengths < found.columns {
-        return Check::Failed(Refusal::Room);
+        return Err(Refusal::Room);
     }
     if rows < found.entries {
-        return Check::Failed(Refusal::Room);
+        return Err(Refusal::Room);
     }
-    Check::Passed
+    Ok(())
 }
 
 // Reads a duty file: the edition, m, n and t, with the front of each list filled; or a refusal, with every list as it was.
-pub fn read(file: &[u8], costs: &mut [i32], lengths: &mut [u16], rows: &mut [u8]) -> ReadAnswer
-    ensures result_value { read_outcome result ≡ reading file.now (length costs.old) (length lengths.old) (length rows.old) }
-    ensures costs_after { costs.new ≡ filled (read_outcome result) (parse file.now).costs costs.old }
-    ensures lengths_after { lengths.new ≡ filled (read_outcome result) (parse file.now).lengths lengths.old }
-    ensures rows_after { rows.new ≡ filled (read_outcome result) (parse file.now).numbers rows.old }
+pub fn read(
+    file: &[u8],
+    costs: &mut [i32],
+    lengths: &mut [u16],
+    rows: &mut [u8],
+) -> Result<Shape, Refusal>
+    ensures result_value { outcome result ≡ reading file.now (length costs.old) (length lengths.old) (length rows.old) }
+    ensures costs_after { costs.new ≡ filled (outcome result) (parse file.now).costs costs.old }
+    ensures lengths_after { lengths.new ≡ filled (outcome result) (parse file.now).lengths lengths.old }
+    ensures rows_after { rows.new ≡ filled (outcome result) (parse file.now).numbers rows.old }
 {
-    let found = examine::examine(file);
-    match found {
-        ReadAnswer::Refused(_) => found,
-        ReadAnswer::Accepted(shape) => {
-            let room = check_rooms(shape, costs.len(), lengths.len(), rows.len());
-            match room {
-                Check::Failed(why) => ReadAnswer::Refused(why),
-                Check::Passed => {
-                    fill_columns(file, costs, lengths);
-                    fill_rows(file, rows);
-                    found
-                }
-            }
-        }
-    }
+    let found = examine::examine(file)?;
+    check_rooms(found, costs.len(), lengths.len(), rows.len())?;
+    fill_columns(file, costs, lengths);
+    fill_rows(file, rows);
+    Ok(found)
 }

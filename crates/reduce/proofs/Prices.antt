@@ -9,7 +9,7 @@ use native.Mathlib.Omega.{arith}
 use lib.IntN.{ℤ, pos, ◌+ℤ◌}
 use lib.ListN.{length, get_or, take, drop, length-map, get_or-map, get_or-append}
 use lib.Seq.{length-take-le, get_or-take}
-use Rattle.refusals.specs.Refusals.{fine, front, filled}
+use Rattle.refusals.specs.Refusals.{outcome, fine, front, filled}
 use Rattle.refusals.proofs.Laws.{both, accepts, fills}
 use Rattle.node.specs.declared.Node.{Node}
 use Rattle.node.specs.Lists.{upto, on, total, on_z, total_z}
@@ -27,9 +27,9 @@ use Rattle.dutyfile.proofs.Marks.{spp1_added}
 use Rattle.matrix.proofs.Accepted.{file-small}
 use Rattle.matrix.proofs.Raised.{price-lowered}
 use Rattle.reduce.specs.declared.Bound.{Bound}
-use Rattle.reduce.specs.declared.ReduceAnswer.{ReduceAnswer}
-use Rattle.reduce.specs.declared.ReduceAnswer.TheVariants.{Reduced}
-use Rattle.reduce.specs.Answer.{reduce_outcome, reduced_root, bound_of, reduced_costs, reduce_fault, reducing}
+use Rattle.refusals.specs.declared.Refusal.{Refusal}
+use Rattle.std.specs.Prelude.{Result, Ok}
+use Rattle.reduce.specs.Answer.{reduced_root, bound_of, reduced_costs, reduce_fault, reducing}
 
 -- a node has 256 costs, reduced or not
 module _ (p : Matrix) where
@@ -88,11 +88,11 @@ module _ (file : List ℕ) (a : Accepted file) where
   price-is h X plan = ap pos (sym (add-zero (price p costs X))) ∙ rw (spp1_added file h) at (price-lowered file a X plan)
 
 -- A call's answer and its list of costs, as its contract says them: every plan's price is the bound and the sum of its reduced costs.
-pub prices : (file : List ℕ) (c o : ℕ) (r : ReduceAnswer) (old reduced : List ℤ) → reduce_outcome r ≡ reducing file c o →
-    reduced ≡ filled (reduce_outcome r) (reduced_costs file) old → (found : Bound) → r ≡ Reduced found → (X : ℕ → Bool) →
+pub prices : (file : List ℕ) (c o : ℕ) (r : Result Bound Refusal) (old reduced : List ℤ) → outcome r ≡ reducing file c o →
+    reduced ≡ filled (outcome r) (reduced_costs file) old → (found : Bound) → r ≡ Ok found → (X : ℕ → Bool) →
     let p : Matrix = (instance (parse file)).matrix in
     IsPlan p X → signed_price p (parse file).costs X ≡ found.bound +ℤ total_z (width p) (λ k. on_z (X k) (get_or reduced k (pos 0)))
-unfolding reduce_outcome reducing reduce_fault bound_of reduced_root
+unfolding outcome reducing reduce_fault bound_of reduced_root
 prices file c o r old reduced told list found e X plan =
     let m : Matrix = (instance (parse file)).matrix in
     let cs : List ℕ = (instance (parse file)).costs in

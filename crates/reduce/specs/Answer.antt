@@ -1,6 +1,6 @@
 -- The reducing call: its tests, its answer in 01's terms, and what its lists hold.
 use Rattle.std.specs.Prelude.{List, map, ℕ, suc, ℤ, pos, length, take}
-use Rattle.refusals.specs.Refusals.{Fault, ◌then◌, Outcome, accepted, refused, unless, number_of}
+use Rattle.refusals.specs.Refusals.{Fault, ◌then◌, Outcome, unless}
 use Rattle.node.specs.Matrix.{Instance}
 use Rattle.node.specs.Node.{root}
 use Rattle.rules.specs.Reduce as rules
@@ -8,13 +8,6 @@ use Rattle.dutyfile.specs.declared.Shape.{Shape}
 use Rattle.dutyfile.specs.File.{parse, instance, shape}
 use Rattle.dutyfile.specs.Faults.{file_fault, spp1_fault, room}
 use Rattle.reduce.specs.declared.Bound.{Bound}
-use Rattle.reduce.specs.declared.ReduceAnswer.{ReduceAnswer}
-use Rattle.reduce.specs.declared.ReduceAnswer.TheVariants.{Reduced, Refused}
-
--- the lower bound (01: floor) and the number of rows used, or a refusal with its number
-unfoldable pub reduce_outcome : ReduceAnswer → Outcome Bound
-reduce_outcome (Reduced found) = accepted found
-reduce_outcome (Refused why) = refused (number_of why)
 
 -- the file as it stands, reduced: all rows open, all columns free, bound 0
 unfoldable pub reduced_root : List ℕ → rules.Reduced

@@ -2,14 +2,13 @@
 #![tactic(auto)]
 
 ghost use Rattle.std.specs.Prelude.{◌≡◌, map, pos, length, take};
-ghost use Rattle.refusals.specs.Refusals.{fault_of, unless, filled, front};
+ghost use Rattle.refusals.specs.Refusals.{fault_of, outcome, unless, filled, front};
 ghost use Rattle.reduce.specs.Room.{CostRoom, Room};
-ghost use Rattle.reduce.specs.Answer.{reduce_outcome, reduce_fault, bound_of, reducing, reduced_costs, used_rows, lists_fault};
+ghost use Rattle.reduce.specs.Answer.{reduce_fault, bound_of, reducing, reduced_costs, used_rows, lists_fault};
 
 use dutyfile::{Edition, Shape};
-use examine::ReadAnswer;
 use lowering::{Reduction, reduce_node};
-use refusals::{Check, Refusal};
+use refusals::Refusal;
 
 // The lower bound and the number of rows used.
 #[derive(Clone, Copy)]
@@ -20,24 +19,17 @@ pub struct Bound {
     pub used: usize,
 }
 
-// What reducing a file comes to.
-#[derive(Clone, Copy)]
-pub enum ReduceAnswer {
-    Reduced(Bound),
-    Refused(Refusal),
-}
-
 // 10, for lists of so many places.
-fn check_lists(found: Shape, reduced: usize, order: usize) -> Check
+fn check_lists(found: Shape, reduced: usize, order: usize) -> Result<(), Refusal>
     ensures { fault_of result ≡ lists_fault found reduced order }
 {
     if reduced < found.columns {
-        return Check::Failed(Refusal::Room);
+        return Err(Refusal::Room);
     }
     if order < found.rows {
-        return Check::Failed(Refusal::Room);
+        return Err(Refusal::Room);
     }
-    Check::Passed
+    Ok(())
 }
 
 // Costs at the front of a list.
@@ -45,10 +37,8 @@ fn put_costs(dst: &mut [i32], src: &[u32])
     requires { CostRoom src.now (length dst.old) }
     ensures { dst.new ≡ front (map pos src.now) dst.old }
 {
-    let mut j = 0;
-    while j < src.len() {
-        dst[j] = src[j] as i32;
-        j += 1;
+    for (j, &cost) in src.iter().enumerate() {
+        dst[j] = cost as i32;
     }
 }
 
@@ -72,39 +62,29 @@ fn give(done: Reduction, columns: usize, reduced: &mut [i32], order: &mut [u8]) 
 }
 
 // Reduces a duty file of either edition, by the costs of a search.
-fn reduce_file(file: &[u8], reduced: &mut [i32], order: &mut [u8]) -> ReduceAnswer
-    ensures result_value { reduce_outcome result ≡ unless (reduce_fault file.now (length reduced.old) (length order.old)) (bound_of file.now) }
-    ensures reduced_after { reduced.new ≡ filled (reduce_outcome result) (reduced_costs file.now) reduced.old }
-    ensures order_after { order.new ≡ filled (reduce_outcome result) (used_rows file.now) order.old }
+fn reduce_file(file: &[u8], reduced: &mut [i32], order: &mut [u8]) -> Result<Bound, Refusal>
+    ensures result_value { outcome result ≡ unless (reduce_fault file.now (length reduced.old) (length order.old)) (bound_of file.now) }
+    ensures reduced_after { reduced.new ≡ filled (outcome result) (reduced_costs file.now) reduced.old }
+    ensures order_after { order.new ≡ filled (outcome result) (used_rows file.now) order.old }
 {
     let mut matrix = matrix::no_cells();
     let mut costs = raising::no_costs();
-    let found = lists::read_matrix(file, &mut matrix, &mut costs);
-    match found {
-        ReadAnswer::Refused(why) => ReduceAnswer::Refused(why),
-        ReadAnswer::Accepted(shape) => {
-            let room = check_lists(shape, reduced.len(), order.len());
-            match room {
-                Check::Failed(why) => ReduceAnswer::Refused(why),
-                Check::Passed => {
-                    let root = root::root_node(&matrix, costs);
-                    let done = reduce_node(root, &matrix);
-                    ReduceAnswer::Reduced(give(done, shape.columns, reduced, order))
-                }
-            }
-        }
-    }
+    let found = lists::read_matrix(file, &mut matrix, &mut costs)?;
+    check_lists(found, reduced.len(), order.len())?;
+    let root = root::root_node(&matrix, costs);
+    let done = reduce_node(root, &matrix);
+    Ok(give(done, found.columns, reduced, order))
 }
 
 // Reduces a duty file of SPP1 as it stands: the lower bound and the number of rows used, with the reduced costs and the rows used at the
 // front of the lists; or a refusal, with both lists as they were.
-pub fn reduce(file: &[u8], reduced: &mut [i32], order: &mut [u8]) -> ReduceAnswer
-    ensures result_value { reduce_outcome result ≡ reducing file.now (length reduced.old) (length order.old) }
-    ensures reduced_after { reduced.new ≡ filled (reduce_outcome result) (reduced_costs file.now) reduced.old }
-    ensures order_after { order.new ≡ filled (reduce_outcome result) (used_rows file.now) order.old }
+pub fn reduce(file: &[u8], reduced: &mut [i32], order: &mut [u8]) -> Result<Bound, Refusal>
+    ensures result_value { outcome result ≡ reducing file.now (length reduced.old) (length order.old) }
+    ensures reduced_after { reduced.new ≡ filled (outcome result) (reduced_costs file.now) reduced.old }
+    ensures order_after { order.new ≡ filled (outcome result) (used_rows file.now) order.old }
 {
     if !dutyfile::begins(file, Edition::Spp1) {
-        return ReduceAnswer::Refused(Refusal::Magic);
+        return Err(Refusal::Magic);
     }
     reduce_file(file, reduced, order)
 }

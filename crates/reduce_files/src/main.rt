@@ -2,62 +2,37 @@
 // bound, the rows in the sequence used and the reduced costs. Then example 1 with lists that hold just enough places, or one too few.
 #![tactic(auto)]
 
-ghost use Rattle.std.specs.Prelude.{◌≡◌, ◌+◌, ◌≤◌, length};
+ghost use Rattle.std.specs.Prelude.{◌≡◌, ◌+◌, ◌<◌, ◌≤◌, length};
 
-use reduce::ReduceAnswer;
-use writer::WriteAnswer;
-
+// std prints by a Display, which would assume two more contracts of C functions than the kit's io.
 fn say(text: &[u8]) {
     io::write_all(1, text);
 }
 
-fn say_number(n: u32) {
-    say(b" ");
-    io::print_decimal(1, n as u64);
-}
-
-fn say_price(price: i64) {
-    if price < 0 {
-        say(b" -");
-    } else {
-        say(b" ");
-    }
-    io::print_decimal(1, signed::magnitude(price));
-}
-
-fn say_rows(rows: &[u8]) {
-    let mut i = 0;
-    while i < rows.len() {
-        say_number(rows[i] as u32);
-        i += 1;
-    }
-}
-
-fn say_costs(costs: &[i32]) {
-    let mut j = 0;
-    while j < costs.len() {
-        say_price(signed::wide(costs[j]));
-        j += 1;
-    }
+// A space and a number with its sign.
+fn say_number(n: i64) {
+    say(if n < 0 { b" -" } else { b" " });
+    io::print_decimal(1, n.unsigned_abs());
 }
 
 // Reduces a file into lists that are lent to it.
 fn show_reduced(file: &[u8], reduced: &mut [i32], order: &mut [u8]) {
     match reduce::reduce(file, reduced, order) {
-        ReduceAnswer::Reduced(found) => {
-            let used = found.used;
+        Ok(found) => {
             say(b" bound");
-            say_price(found.bound);
+            say_number(found.bound);
             say(b" by rows");
-            if used <= order.len() {
-                say_rows(&order[0..used]);
+            for row in order.iter().take(found.used) {
+                say_number(i64::from(*row));
             }
             say(b"; costs");
-            say_costs(reduced);
+            for cost in reduced.iter() {
+                say_number(i64::from(*cost));
+            }
         }
-        ReduceAnswer::Refused(why) => {
+        Err(why) => {
             say(b" refused");
-            say_number(refusals::number(why));
+            say_number(i64::from(u32::from(why)));
         }
     }
     say(b"\n");
@@ -69,7 +44,7 @@ fn show_file(file: &[u8], columns: usize, rows: usize)
 {
     let mut reduced = [0i32; 256];
     let mut order = [0u8; 64];
-    show_reduced(file, &mut reduced[0..columns], &mut order[0..rows]);
+    show_reduced(file, &mut reduced[0..columns], &mut order[0..rows])
 }
 
 // Writes a file from lists, and reduces it into lists of so many places.
@@ -85,14 +60,10 @@ fn show_lists(
 {
     let mut file = [0u8; 6152];
     match writer::write(rows, costs, lengths, numbers, &mut file) {
-        WriteAnswer::Written(size) => {
-            if size <= 6152 {
-                show_file(&file[0..size], columns, places);
-            }
-        }
-        WriteAnswer::Refused(why) => {
+        Ok(size) => show_file(&file[0..size], columns, places),
+        Err(why) => {
             say(b" not written");
-            say_number(refusals::number(why));
+            say_number(i64::from(u32::from(why)));
         }
     }
 }
@@ -100,41 +71,41 @@ fn show_lists(
 fn example1(columns: usize, places: usize)
     requires { (columns ≤ 256) × (places ≤ 64) }
 {
-    let costs: [i32; 8] = [3, 7, 5, 8, 10, 4, 6, 9];
-    let lengths: [u16; 8] = [1, 2, 1, 2, 2, 2, 2, 1];
-    let numbers: [u8; 13] = [1, 1, 5, 2, 2, 5, 2, 3, 3, 5, 3, 4, 4];
-    show_lists(5, &costs, &lengths, &numbers, columns, places);
+    let costs = [3, 7, 5, 8, 10, 4, 6, 9];
+    let lengths = [1, 2, 1, 2, 2, 2, 2, 1];
+    let numbers = [1, 1, 5, 2, 2, 5, 2, 3, 3, 5, 3, 4, 4];
+    show_lists(5, &costs, &lengths, &numbers, columns, places)
 }
 
 fn example2() {
-    let costs: [i32; 12] = [30, 49, 51, 52, 52, 55, 67, 67, 70, 81, 81, 83];
-    let lengths: [u16; 12] = [3, 3, 3, 3, 3, 3, 3, 3, 3, 3, 3, 3];
-    let numbers: [u8; 36] = [
+    let costs = [30, 49, 51, 52, 52, 55, 67, 67, 70, 81, 81, 83];
+    let lengths = [3; 12];
+    let numbers = [
         1, 2, 3, 1, 2, 4, 1, 2, 5, 1, 3, 5, 3, 4, 6, 2, 3, 6, 2, 4, 6, 1, 3, 4, 1, 4, 5, 2, 5, 6,
         3, 5, 6, 4, 5, 6,
     ];
-    show_lists(6, &costs, &lengths, &numbers, 12, 6);
+    show_lists(6, &costs, &lengths, &numbers, 12, 6)
 }
 
 fn example3() {
-    let costs: [i32; 20] = [
+    let costs = [
         1, 2, 3, 4, 5, 6, 7, 8, 9, 10, 11, 12, 13, 14, 15, 16, 17, 18, 19, 20,
     ];
-    let lengths: [u16; 20] = [1, 2, 1, 2, 3, 1, 2, 2, 2, 2, 2, 1, 2, 2, 2, 1, 1, 1, 1, 1];
-    let numbers: [u8; 32] = [
+    let lengths = [1, 2, 1, 2, 3, 1, 2, 2, 2, 2, 2, 1, 2, 2, 2, 1, 1, 1, 1, 1];
+    let numbers = [
         1, 1, 2, 3, 4, 5, 1, 6, 7, 4, 1, 2, 4, 8, 3, 5, 3, 6, 3, 5, 4, 1, 5, 2, 8, 6, 8, 7, 8, 2,
         5, 7,
     ];
-    show_lists(8, &costs, &lengths, &numbers, 20, 8);
+    show_lists(8, &costs, &lengths, &numbers, 20, 8)
 }
 
 fn example4() {
-    let costs: [i32; 10] = [18, 22, 14, 36, 17, 14, 8, 24, 14, 7];
-    let lengths: [u16; 10] = [2, 3, 2, 4, 2, 2, 1, 3, 2, 1];
-    let numbers: [u8; 22] = [
+    let costs = [18, 22, 14, 36, 17, 14, 8, 24, 14, 7];
+    let lengths = [2, 3, 2, 4, 2, 2, 1, 3, 2, 1];
+    let numbers = [
         5, 6, 3, 5, 6, 1, 4, 2, 3, 4, 6, 1, 2, 2, 6, 5, 3, 4, 6, 3, 5, 4,
     ];
-    show_lists(6, &costs, &lengths, &numbers, 10, 6);
+    show_lists(6, &costs, &lengths, &numbers, 10, 6)
 }
 
 // A body: at most so many rows from a first one on, a step apart, written from a place on. Gives the place after it.
@@ -149,20 +120,16 @@ fn put_body(
     requires { (at ≤ length numbers.old) × (rows ≤ 64) × (first ≤ 64) × (step ≤ 7) × (most ≤ 6) }
     ensures { (at ≤ result) × (result ≤ length numbers.new) × (result ≤ at + most) }
 {
+    let end = numbers.len().min(at + most);
     let mut row = first;
-    let mut k = 0;
-    while k < most {
+    for place in at..end {
         if rows < row {
-            return at + k;
+            return place;
         }
-        if numbers.len() <= at + k {
-            return at + k;
-        }
-        numbers[at + k] = row as u8;
+        numbers[place] = row as u8;
         row += step;
-        k += 1;
     }
-    at + k
+    end
 }
 
 // Lists of so many rows and columns. Gives the number of row numbers.
@@ -178,13 +145,11 @@ fn grow(
 {
     let mut first = 1;
     let mut end = 0;
-    let mut j = 0;
-    while j < costs.len() {
+    for (j, (cost, size)) in costs.iter_mut().zip(lengths.iter_mut()).enumerate() {
         let next = put_body(numbers, end, rows, first, 1 + j % 7, 2 + j % 5);
-        costs[j] = (100 + j * 7919 % 997) as i32;
-        lengths[j] = (next - end) as u16;
+        *cost = (100 + j * 7919 % 997) as i32;
+        *size = (next - end) as u16;
         end = next;
-        j += 1;
         first += stride;
         if rows < first {
             first -= rows;
@@ -211,7 +176,7 @@ fn show_grown_in(
         &numbers[0..end],
         costs.len(),
         rows,
-    );
+    )
 }
 
 fn show_grown(rows: usize, columns: usize, stride: usize)
@@ -226,7 +191,7 @@ fn show_grown(rows: usize, columns: usize, stride: usize)
         &mut costs[0..columns],
         &mut lengths[0..columns],
         &mut numbers,
-    );
+    )
 }
 
 fn main() {
@@ -249,5 +214,5 @@ fn main() {
     say(b"example 1, longer lists:");
     example1(10, 6);
     say(b"no file:");
-    show_file(b"", 1, 1);
+    show_file(b"", 1, 1)
 }

@@ -2,16 +2,17 @@
 use mathlib.Core.Path.{◌≡◌, refl, sym, ◌∙◌}
 use mathlib.Core.Bool.{Bool, true, false}
 use mathlib.Core.List.{List}
+use Rattle.std.specs.Prelude.{Result, Ok, Err}
+use Rattle.std.specs.Result.{IsErrAnd}
+use Rattle.std.proofs.lemmas.Result.{err_from_is_err_and}
 use Prim.Native.Nat.{ℕ, ◌+◌, ◌-◌, ◌≤◌, ◌<◌}
 use native.Mathlib.Nat.{zero-add}
 use lib.ListN.{length, get_or, take, drop}
 use lib.Seq.{sets, sets-eq, get_or-drop, get_or-append-add, take-append_seam}
 use native.Mathlib.Omega.{arith}
-use Rattle.refusals.specs.Refusals.{Fault, fine, fault, ask, ◌then◌, number_of, fault_of, Outcome, accepted, refused, unless, front, filled}
+use Rattle.refusals.specs.Refusals.{Fault, fine, fault, ask, ◌then◌, number_of, fault_of, outcome, Outcome, accepted, refused, unless, front, filled}
 use Rattle.refusals.specs.declared.Refusal.{Refusal}
 use Rattle.refusals.specs.declared.Refusal.TheVariants.{Magic, Counts, Contents, Cost, Length, Total, Start, End, Row, Room, NodeLimit, Offered, Lists, Agreed, Absent, TableSize, TableCost, TrialColumns, StepColumn, Pair, PairCount}
-use Rattle.refusals.specs.declared.Check.{Check}
-use Rattle.refusals.specs.declared.Check.TheVariants.{Passed, Failed}
 
 -- no refusal has the number 0
 pub numbered : (w : Refusal) → 0 < number_of w
@@ -55,20 +56,33 @@ unfolding ask
 fails k e = rw e
 
 -- what a call's result says, by the arm of a match
-module _ {r : Check} {a : Fault} (is : fault_of r ≡ a) where
-  pub failed : (w : Refusal) → r ≡ Failed w → a ≡ fault (number_of w)
+module _ {A : Type 0} {r : Result A Refusal} {a : Fault} (is : fault_of r ≡ a) where
+  pub failed : (w : Refusal) → r ≡ Err w → a ≡ fault (number_of w)
   unfolding fault_of
   failed w e = rw e at (sym is)
 
-  pub passed : r ≡ Passed → a ≡ fine
+  pub passed : {x : A} → r ≡ Ok x → a ≡ fine
   unfolding fault_of
   passed e = rw e at (sym is)
 
-  pub stops : (b : Fault) (w : Refusal) → r ≡ Failed w → fault_of r ≡ (a then b)
+  pub stops : (b : Fault) (w : Refusal) → r ≡ Err w → fault_of r ≡ (a then b)
   stops b w e = is ∙ failed w e ∙ sym (stops_at (number_of w) b (failed w e))
 
-  pub continues : (b : Fault) → r ≡ Passed → (a then b) ≡ b
+  pub continues : (b : Fault) {x : A} → r ≡ Ok x → (a then b) ≡ b
   continues b e = goes_on b (passed e)
+
+-- what is returned where a `?` hands on a refusal
+module _ {A : Type 0} (w : Refusal) (r : Result A Refusal) (handed : IsErrAnd r (λ e. e ≡ w)) where
+  pub handed_on : r ≡ Err w
+  handed_on = let p = err_from_is_err_and r handed in rw p.2 at p.1
+
+  pub fault_handed : (b : Fault) {a : Fault} → a ≡ fault (number_of w) → fault_of r ≡ (a then b)
+  unfolding fault_of
+  fault_handed b e = rw handed_on (sym (stops_at (number_of w) b e))
+
+  pub outcome_handed : (x : A) {f : Fault} → f ≡ fault (number_of w) → outcome r ≡ unless f x
+  unfolding outcome unless
+  outcome_handed x e = rw (handed_on, e)
 
 -- all tests pass: each of them does
 pub both : (a b : Fault) → (a then b) ≡ fine → (a ≡ fine) × (b ≡ fine)

@@ -1,9 +1,7 @@
 -- Refusals: their numbers, sequences of tests, and what a call comes to (01, When a call declines).
-use Rattle.std.specs.Prelude.{Bool, true, false, List, ◌++◌, ℕ, length, drop}
+use Rattle.std.specs.Prelude.{Bool, true, false, List, ◌++◌, ℕ, length, drop, Result, Ok, Err}
 use Rattle.refusals.specs.declared.Refusal.{Refusal}
 use Rattle.refusals.specs.declared.Refusal.TheVariants.{Magic, Counts, Contents, Cost, Length, Total, Start, End, Row, Room, NodeLimit, Offered, Lists, Agreed, Absent, TableSize, TableCost, TrialColumns, StepColumn, Pair, PairCount}
-use Rattle.refusals.specs.declared.Check.{Check}
-use Rattle.refusals.specs.declared.Check.TheVariants.{Passed, Failed}
 
 -- 01's number for each refusal
 abbrev pub number_of : Refusal → ℕ
@@ -64,7 +62,12 @@ unfoldable pub filled : {A B : Type 0} → Outcome A → List B → List B → L
 filled (accepted a) new old = front new old
 filled (refused k) new old = old
 
--- the code's test results in these terms
-unfoldable pub fault_of : Check → Fault
-fault_of Passed = fine
-fault_of (Failed why) = fault (number_of why)
+-- what the code's tests find, in these terms
+unfoldable pub fault_of : {A : Type 0} → Result A Refusal → Fault
+fault_of (Ok a) = fine
+fault_of (Err why) = fault (number_of why)
+
+-- what a call of the code comes to, in these terms
+unfoldable pub outcome : {A : Type 0} → Result A Refusal → Outcome A
+outcome (Ok a) = accepted a
+outcome (Err why) = refused (number_of why)

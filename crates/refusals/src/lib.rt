@@ -8,81 +8,54 @@ ghost use Rattle.refusals.specs.Refusals.{number_of};
 #[derive(Clone, Copy)]
 pub enum Refusal {
     // Under 8 bytes, or neither SPP1 nor SPP2.
-    Magic,
+    Magic = 1,
     // Rows or columns out of range.
-    Counts,
+    Counts = 2,
     // The file ends inside the contents.
-    Contents,
+    Contents = 3,
     // A cost out of range.
-    Cost,
+    Cost = 4,
     // A body length out of range.
-    Length,
+    Length = 5,
     // The running sum of lengths is above 4,096.
-    Total,
+    Total = 6,
     // A body that does not start where the former ends.
-    Start,
+    Start = 7,
     // The file's length is not the last body's end.
-    End,
+    End = 8,
     // A row number out of range or not rising.
-    Row,
+    Row = 9,
     // A lent list or buffer is too short.
-    Room,
+    Room = 10,
     // The node limit is out of range.
-    NodeLimit,
+    NodeLimit = 11,
     // An offered column is out of range or not rising.
-    Offered,
+    Offered = 12,
     // The writer's lists disagree in length.
-    Lists,
+    Lists = 13,
     // An agreed column is out of range or not rising.
-    Agreed,
+    Agreed = 14,
     // An absent column is out of range or not rising.
-    Absent,
+    Absent = 15,
     // The crews or the vessels of a table are out of range, or there are more crews than vessels.
-    TableSize,
+    TableSize = 16,
     // A cost in a table is out of range.
-    TableCost,
+    TableCost = 17,
     // More columns than a call that appends some takes.
-    TrialColumns,
+    TrialColumns = 18,
     // The column of a step is out of range.
-    StepColumn,
+    StepColumn = 19,
     // A pair names a column out of range, or one column twice.
-    Pair,
+    Pair = 20,
     // The list of pairs has an odd length, or more than 128 pairs.
-    PairCount,
-}
-
-// What a test, or a sequence of tests, comes to.
-#[derive(Clone, Copy)]
-pub enum Check {
-    Passed,
-    Failed(Refusal),
+    PairCount = 21,
 }
 
 // 01's number of a refusal.
-pub fn number(why: Refusal) -> u32
-    ensures { result ≡ number_of why }
-{
-    match why {
-        Refusal::Magic => 1,
-        Refusal::Counts => 2,
-        Refusal::Contents => 3,
-        Refusal::Cost => 4,
-        Refusal::Length => 5,
-        Refusal::Total => 6,
-        Refusal::Start => 7,
-        Refusal::End => 8,
-        Refusal::Row => 9,
-        Refusal::Room => 10,
-        Refusal::NodeLimit => 11,
-        Refusal::Offered => 12,
-        Refusal::Lists => 13,
-        Refusal::Agreed => 14,
-        Refusal::Absent => 15,
-        Refusal::TableSize => 16,
-        Refusal::TableCost => 17,
-        Refusal::TrialColumns => 18,
-        Refusal::StepColumn => 19,
-        Refusal::Pair => 20,
-        Refusal::PairCount => 21,
+impl From<Refusal> for u32 {
+    ghost from_gives = { λ why r. r ≡ number_of why };
+
+    fn from(why: Refusal) -> u32 {
+        why as u32
     }
 }

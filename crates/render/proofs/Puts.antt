@@ -1,15 +1,13 @@
--- Writing the contents: the entries that are left, written from their place on, give what all of them give.
+-- The runs of bytes that are written one after the other, and the contents entry by entry.
 use mathlib.Core.Path.{◌≡◌, refl, ap, sym, ◌∙◌}
-use mathlib.Core.List.{List, ◌∷◌, ◌++◌}
-use Prim.Native.Nat.{ℕ, ◌+◌, ◌≤◌, ◌<◌}
+use mathlib.Core.List.{List, [], ◌∷◌, ◌++◌}
+use Prim.Native.Nat.{ℕ, ◌+◌, ◌≤◌}
 use native.Mathlib.Omega.{arith}
-use lib.IntN.{ℤ, pos}
+use lib.IntN.{ℤ}
 use native.Mathlib.Nat.{add_assoc}
-use lib.ListN.{length, get_or, drop, drop_of_length-le, length-append}
+use lib.ListN.{length, length-append}
 use lib.Seq.{sets, length-sets}
 use Rattle.endian.proofs.Parts.{sets_append}
-use Rattle.signed.proofs.Signs.{from_place}
-use Rattle.node.proofs.Loops.{drop-step}
 use Rattle.dutyfile.specs.File.{bodies_at, entry_bytes, contents, sum}
 
 -- an entry, and the header, are written in three runs, one after the other
@@ -17,64 +15,41 @@ pub three-runs : (at p q : ℕ) (a b c : List ℕ) (out x y z : List ℕ) → x 
     p ≡ at + length a → q ≡ at + length a + length b → z ≡ sets out at (a ++ b ++ c)
 three-runs at p q a b c out x y z e f g h i = rw (g, f, e, i, h, sets_append, sets_append, length-append, add_assoc)
 
--- at entry j, whose body starts at a place
-pub record Putting (old : List ℕ) (costs : List ℤ) (lengths out : List ℕ) (start j : ℕ) : Type 0 where
-  pub few : length costs ≤ 256
+-- at entry k, whose body starts at a place: the costs and the lengths that are left, written from here on, give the whole
+pub record Putting (whole out : List ℕ) (start k : ℕ) (costs : List ℤ) (lengths : List ℕ) : Type 0 where
+  pub few : k + length costs ≤ 256
   pub same : length lengths ≡ length costs
-  pub within : j ≤ length costs
-  pub room : bodies_at (length costs) ≤ length out
-  pub same_length : length out ≡ length old
-  pub ends : start + sum (drop j lengths) ≤ 6152
-  pub left : sets out (bodies_at j) (contents start (drop j costs) (drop j lengths)) ≡ sets old 8 (contents (bodies_at (length costs)) costs lengths)
+  pub room : bodies_at (k + length costs) ≤ length out
+  pub ends : start + sum lengths ≤ 6152
+  pub left : sets out (bodies_at k) (contents start costs lengths) ≡ whole
 
-module _ (old : List ℕ) (costs : List ℤ) (lengths : List ℕ) where
-  pub putting_start : length costs ≤ 256 → length lengths ≡ length costs → sum lengths ≤ 4096 → bodies_at (length costs) ≤ length old →
-      Putting old costs lengths old (bodies_at (length costs)) 0
-  putting_start f e h r = record {
-    few = f;
-    same = e;
-    within = omega arith;
-    room = r;
-    same_length = refl;
-    ends = omega arith;
-    left = refl;
-  }
+pub putting_start : (old : List ℕ) (costs : List ℤ) (lengths : List ℕ) → length costs ≤ 256 → length lengths ≡ length costs → sum lengths ≤ 4096 →
+    bodies_at (length costs) ≤ length old → (k : ℕ) (cs : List ℤ) (ls : List ℕ) → k ≡ 0 → cs ≡ costs → ls ≡ lengths →
+    Putting (sets old 8 (contents (bodies_at (length costs)) costs lengths)) old (bodies_at (length costs)) k cs ls
+putting_start old costs lengths f e h r k cs ls a b d =
+    rw (a, b, d) (record { few = omega arith; same = e; room = omega arith; ends = omega arith; left = refl })
 
-  module _ (out : List ℕ) (start j : ℕ) (w : Putting old costs lengths out start j) where
-    module _ (inside : j < length costs) where
-      split : drop j lengths ≡ get_or lengths j 0 ∷ drop (j + 1) lengths
-      split = drop-step lengths j (omega (arith, w.same))
+module _ {whole out : List ℕ} {start k : ℕ} {costs : List ℤ} {lengths : List ℕ} (w : Putting whole out start k costs lengths) where
+  module _ {c : ℤ} {l : ℕ} {cs : List ℤ} {ls : List ℕ} (e : costs ≡ c ∷ cs) (f : lengths ≡ l ∷ ls) where
+    pub putting_ends : start + l + sum ls ≤ 6152
+    unfolding sum
+    putting_ends = omega (arith, rw f at w.ends)
 
-      pub putting_ends : start + get_or lengths j 0 + sum (drop (j + 1) lengths) ≤ 6152
-      unfolding sum
-      putting_ends = omega (arith, rw split at w.ends)
-
-      here : sets out (bodies_at j) (contents start (drop j costs) (drop j lengths))
-          ≡ sets (sets out (bodies_at j) (entry_bytes (get_or costs j (pos 0)) start (get_or lengths j 0))) (bodies_at (j + 1))
-          (contents (start + get_or lengths j 0) (drop (j + 1) costs) (drop (j + 1) lengths))
-      unfolding contents
-      here =
-          let e : bodies_at j + 8 ≡ bodies_at (j + 1) = omega arith in
-          let c : ℤ = get_or costs j (pos 0) in
-          let l : ℕ = get_or lengths j 0 in
-          let rest : List ℕ = contents (start + l) (drop (j + 1) costs) (drop (j + 1) lengths) in
-          rw (from_place costs j inside, split)
-          (sets_append out (bodies_at j) (entry_bytes c start l) rest ∙ ap (λ i. sets (sets out (bodies_at j) (entry_bytes c start l)) i rest) e)
-
-      pub putting_next : (next : List ℕ) → next ≡ sets out (bodies_at j) (entry_bytes (get_or costs j (pos 0)) start (get_or lengths j 0)) →
-          Putting old costs lengths next (start + get_or lengths j 0) (j + 1)
-      putting_next next e =
-          let l : length next ≡ length out = rw e (length-sets out (bodies_at j) (entry_bytes (get_or costs j (pos 0)) start (get_or lengths j 0))) in
-          record {
-            few = w.few;
-            same = w.same;
-            within = omega arith;
-            room = rw l w.room;
-            same_length = l ∙ w.same_length;
-            ends = putting_ends;
-            left = rw e (sym here ∙ w.left);
-          }
-
-    pub putting_end : length costs ≤ j → out ≡ sets old 8 (contents (bodies_at (length costs)) costs lengths)
+    pub putting_next : (next : List ℕ) → next ≡ sets out (bodies_at k) (entry_bytes c start l) → Putting whole next (start + l) (k + 1) cs ls
     unfolding contents
-    putting_end h = rw (drop_of_length-le costs h) at w.left
+    putting_next next g =
+        let entry : List ℕ = entry_bytes c start l in
+        let rest : List ℕ = contents (start + l) cs ls in
+        let n : length next ≡ length out = rw g (length-sets out (bodies_at k) entry) in
+        let at : bodies_at k + 8 ≡ bodies_at (k + 1) = omega arith in
+        record {
+          few = omega (arith, w.few, ap length e);
+          same = omega (arith, w.same, ap length e, ap length f);
+          room = omega (arith, w.room, n, ap length e);
+          ends = putting_ends;
+          left = rw (g, ← at) (sym (sets_append out (bodies_at k) entry rest) ∙ (rw (e, f) at w.left));
+        }
+
+  pub putting_end : costs ≡ [] → out ≡ whole
+  unfolding contents
+  putting_end e = rw e at w.left

@@ -4,10 +4,21 @@
 ghost use Rattle.std.specs.Prelude.{◌≡◌, ◌+◌, ◌*◌, ◌≤◌, ◌<◌, length};
 ghost use Rattle.std.proofs.lemmas.List.Edits.{sets};
 ghost use Rattle.refusals.specs.Refusals.{fine, front};
-ghost use Rattle.dutyfile.specs.File.{edition_digit, bodies_at, lists, header, entry_bytes, contents, render, sum};
+ghost use Rattle.dutyfile.specs.File.{edition_digit, bodies_at, header, entry_bytes, contents, render, sum};
 ghost use Rattle.dutyfile.specs.Faults.{lists_fault};
+ghost use Rattle.render.specs.Lists.{lists_of};
 
 use dutyfile::Edition;
+
+// What a file is written from: the edition, the number of rows, and the lists.
+#[derive(Clone, Copy)]
+pub struct Lists<'a> {
+    pub edition: Edition,
+    pub rows: u16,
+    pub costs: &'a [i32],
+    pub lengths: &'a [u16],
+    pub numbers: &'a [u8],
+}
 
 // Entry j of the contents.
 fn put_entry(out: &mut [u8], j: usize, cost: i32, start: u16, size: u16)
@@ -28,11 +39,9 @@ fn put_contents(out: &mut [u8], costs: &[i32], lengths: &[u16])
     ensures { out.new ≡ sets out.old 8 (contents (bodies_at (length costs.now)) costs.now lengths.now) }
 {
     let mut start = 8 + 8 * costs.len();
-    let mut k = 0;
-    while k < costs.len() {
-        put_entry(out, k, costs[k], start as u16, lengths[k]);
-        start += lengths[k] as usize;
-        k += 1;
+    for (k, (&cost, &size)) in costs.iter().zip(lengths).enumerate() {
+        put_entry(out, k, cost, start as u16, size);
+        start += usize::from(size);
     }
 }
 
@@ -58,20 +67,13 @@ fn put_header(edition: Edition, out: &mut [u8], rows: u16, columns: u16)
 }
 
 // The whole file, at the front of the buffer.
-pub fn put_file(
-    edition: Edition,
-    rows: u16,
-    costs: &[i32],
-    lengths: &[u16],
-    numbers: &[u8],
-    out: &mut [u8],
-)
-    requires numbers_value { lists_fault (lists edition rows costs.now lengths.now numbers.now) ≡ fine }
-    requires numbers_in_bounds { length (render (lists edition rows costs.now lengths.now numbers.now)) ≤ length out.old }
-    ensures { out.new ≡ front (render (lists edition rows costs.now lengths.now numbers.now)) out.old }
+pub fn put_file(given: &Lists<'_>, out: &mut [u8])
+    requires lists_pass { lists_fault (lists_of given.now) ≡ fine }
+    requires file_fits { length (render (lists_of given.now)) ≤ length out.old }
+    ensures { out.new ≡ front (render (lists_of given.now)) out.old }
 {
-    let columns = costs.len();
-    put_header(edition, out, rows, columns as u16);
-    put_contents(out, costs, lengths);
-    endian::put(out, 8 + 8 * columns, numbers);
+    let columns = given.costs.len();
+    put_header(given.edition, out, given.rows, columns as u16);
+    put_contents(out, given.costs, given.lengths);
+    endian::put(out, 8 + 8 * columns, given.numbers);
 }

@@ -16,8 +16,7 @@ fn search_line(file: &[u8], limit: u32, plan: &mut [u16], out: &mut [u8]) -> usi
     ensures out_after { out.new ≡ front (line_of (searching file.now limit (length plan.old))) out.old }
     ensures plan_after { plan.new ≡ filled (searching file.now limit (length plan.old)) (plan_list file.now limit) plan.old }
 {
-    let none = [0u16; 0];
-    let answer = search::search(file, limit, &none, &none, &none, plan);
+    let answer = search::search(file, limit, &[], &[], &[], plan);
     line::put_line(out, answer)
 }
 

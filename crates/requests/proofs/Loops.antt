@@ -1,12 +1,13 @@
--- The columns that are left to be left, or to be taken, from a place on give what all of them give; and so with a number that is looked for.
+-- The columns that are left to be left, or to be taken, from a place on give what all of them give.
 use mathlib.Core.Path.{◌≡◌, refl, ap, sym, ◌∙◌}
-use mathlib.Core.Bool.{true, false, not, cond, ◌||◌}
+use mathlib.Core.Bool.{Bool, true, false, not, cond}
 use mathlib.Core.List.{List, [], ◌∷◌}
 use Prim.Native.Nat.{ℕ, ◌+◌, ◌-◌, ◌≤◌, ◌<◌}
 use native.Mathlib.Omega.{arith}
 use lib.Dec.{eqb}
 use lib.ListN.{length, get_or, drop, drop_of_length-le}
-use borrow.Author.Tests.{eq-eqb, ne_eqb}
+use borrow.Author.Tests.{eq-eqb, ne_eqb, eqb-true, eqb-false}
+use Rattle.std.specs.List.{list_any}
 use Rattle.node.specs.declared.Node.{Node}
 use Rattle.node.specs.Lists.{keep, member}
 use Rattle.node.specs.Matrix.{Matrix, width, IsPlan}
@@ -22,7 +23,7 @@ use Rattle.rules.specs.Goals.{search_for}
 use Rattle.rules.proofs.Agreed.{without_good}
 use Rattle.rules.proofs.Goals.{WorkableFor, goal_steps}
 use Rattle.goals.specs.Taking.{Takes}
-use Rattle.rules.proofs.Numbers.{Numbers, numbers-inside, numbers-low}
+use Rattle.rules.proofs.Numbers.{Numbers, numbers-inside}
 use Rattle.requests.specs.Numbers.{Takeable, Begins}
 
 -- the columns of a list from place k on
@@ -38,9 +39,6 @@ rest_end js k l = ap columns_of (drop_of_length-le js l)
 -- at place k, with the columns before it left
 pub record Leaving (js : List ℕ) (s₀ s : Node) (k : ℕ) : Type 0 where
   pub left : without (rest js k) s ≡ without (columns_of js) s₀
-
-pub leaving_start : (js : List ℕ) (s : Node) → Leaving js s s 0
-leaving_start js s = record { left = refl }
 
 module _ (js : List ℕ) (s₀ s : Node) (k : ℕ) (w : Leaving js s₀ s k) where
   module _ (l : k < length js) where
@@ -58,28 +56,18 @@ module _ (js : List ℕ) (s₀ s : Node) (k : ℕ) (w : Leaving js s₀ s k) whe
   unfolding without
   leaving_end l = sym (ap (λ (is : List ℕ). without is s) (rest_end js k l)) ∙ w.left
 
--- at place k, with a number not found before it
-pub record Looking (x : ℕ) (js : List ℕ) (k : ℕ) : Type 0 where
-  pub left : member x (drop k js) ≡ member x js
+eqb-turned : (x y : ℕ) → eqb y x ≡ eqb x y
+eqb-turned x y = go (eqb x y) refl
+  where
+    go : (b : Bool) → eqb x y ≡ b → eqb y x ≡ b
+    go true e = eq-eqb y x (sym (eqb-true x y e))
+    go false e = ne_eqb y x (λ h. eqb-false x y e (sym h))
 
-pub looking_start : (x : ℕ) (js : List ℕ) → Looking x js 0
-looking_start x js = record { left = refl }
-
-module _ (x : ℕ) (js : List ℕ) (k : ℕ) (w : Looking x js k) where
-  module _ (l : k < length js) where
-    found : (eqb x (get_or js k 0) || member x (drop (k + 1) js)) ≡ member x js
-    unfolding member
-    found = sym (ap (member x) (drop-step js k l)) ∙ w.left
-
-    pub looking_found : get_or js k 0 ≡ x → true ≡ member x js
-    looking_found h = rw (eq-eqb x (get_or js k 0) (sym h)) at found
-
-    pub looking_next : (get_or js k 0 ≡ x → ⊥) → Looking x js (k + 1)
-    looking_next h = record { left = rw (ne_eqb x (get_or js k 0) (λ e. h (sym e))) at found }
-
-  pub looking_end : length js ≤ k → false ≡ member x js
-  unfolding member
-  looking_end l = sym (ap (member x) (drop_of_length-le js l)) ∙ w.left
+-- a number that the library finds is one of the list
+pub holds_is : (x : ℕ) (js : List ℕ) → list_any (λ y. eqb y x) js ≡ member x js
+unfolding member
+holds_is x [] = refl
+holds_is x (y ∷ ys) = rw (eqb-turned x y, holds_is x ys)
 
 -- the columns that are to be taken, from place k of the agreed list on
 abbrev due : List ℕ → List ℕ → ℕ → List ℕ
@@ -102,9 +90,6 @@ pub record Taking (g : Goal) (l js absent : List ℕ) (s₀ s : Node) (k : ℕ) 
   pub left : with_all (search_for g (matrix_in l)).join (matrix_in l) (due js absent k) s
       ≡ with_all (search_for g (matrix_in l)).join (matrix_in l) (columns_of (struck js absent)) s₀
 
-pub taking_start : (g : Goal) (l js absent : List ℕ) (s : Node) → Takeable g l s js → Taking g l js absent s s 0
-taking_start g l js absent s t = record { some = t.some; left = refl }
-
 module _ (g : Goal) (l js absent : List ℕ) (s₀ s : Node) (k : ℕ) (w : Taking g l js absent s₀ s k) where
   abbrev p : Matrix
   p = matrix_in l
@@ -119,35 +104,38 @@ module _ (g : Goal) (l js absent : List ℕ) (s₀ s : Node) (k : ℕ) (w : Taki
     abbrev j : ℕ
     j = get_or js k 0 - 1
 
-    -- an absent column is passed over
-    pub taking_struck : not (member (get_or js k 0) absent) ≡ false → Taking g l js absent s₀ s (k + 1)
-    taking_struck e =
-        let d : due js absent k ≡ due js absent (k + 1) = rw e at (due_step js absent k within) in
-        record { some = w.some; left = rw d at w.left }
+    module _ (r : Bool) (told : r ≡ list_any (λ y. eqb y (get_or js k 0)) absent) where
+      struck_is : (b : Bool) → r ≡ b → due js absent k ≡
+          let others : List ℕ = struck (drop (k + 1) js) absent in
+          columns_of (cond (not b) (get_or js k 0 ∷ others) others)
+      struck_is b e = rw (← e, told, holds_is (get_or js k 0) absent) (due_step js absent k within)
 
-    -- another one is taken, or the node is dead
-    module _ (e : not (member (get_or js k 0) absent) ≡ true) where
-      next : cond (is_free s j) (with_all o.join p (due js absent (k + 1)) (take p s j (o.join s j))) (dead s) ≡ whole
-      unfolding with_all
-      next =
-          let d : due js absent k ≡ j ∷ due js absent (k + 1) = rw e at (due_step js absent k within) in
-          sym (ap (λ (is : List ℕ). with_all o.join p is s) d) ∙ w.left
+      -- an absent column is passed over
+      pub taking_struck : r ≡ true → Taking g l js absent s₀ s (k + 1)
+      taking_struck e = record { some = w.some; left = rw (struck_is true e) at w.left }
 
-      pub taking_dead : (mark s (get_or js k 0 - 1) ≡ 1 → ⊥) → dead s ≡ whole
-      taking_dead h = rw (ne_eqb (mark s j) 1 h) at next
+      -- another one is taken, or the node is dead
+      module _ (e : r ≡ false) where
+        next : cond (is_free s j) (with_all o.join p (due js absent (k + 1)) (take p s j (o.join s j))) (dead s) ≡ whole
+        unfolding with_all
+        next =
+            sym (ap (λ (is : List ℕ). with_all o.join p is s) (struck_is false e)) ∙ w.left
 
-      module _ (n : Numbers (width p) js) (h : mark s (get_or js k 0 - 1) ≡ 1) where
-        pub taking_takes : Takes g l s (get_or js k 0 - 1)
-        taking_takes = record {
-          some = w.some;
-          free = record { col = omega (arith, (n k within).0, (n k within).1); is_free_true = eq-eqb (mark s j) 1 h };
-        }
+        pub taking_dead : (mark s (get_or js k 0 - 1) ≡ 1 → ⊥) → dead s ≡ whole
+        taking_dead h = rw (ne_eqb (mark s j) 1 h) at next
 
-        pub taking_next : (t : Node) → t ≡ take p s (get_or js k 0 - 1) (o.join s (get_or js k 0 - 1)) → Taking g l js absent s₀ t (k + 1)
-        taking_next t is = record {
-          some = rw is ((goal_steps g l w.some.kept).taking s j taking_takes.free w.some);
-          left = rw is (rw (eq-eqb (mark s j) 1 h) at next);
-        }
+        module _ (n : Numbers (width p) js) (h : mark s (get_or js k 0 - 1) ≡ 1) where
+          pub taking_takes : Takes g l s (get_or js k 0 - 1)
+          taking_takes = record {
+            some = w.some;
+            free = record { col = omega (arith, (n k within).0, (n k within).1); is_free_true = eq-eqb (mark s j) 1 h };
+          }
+
+          pub taking_next : (t : Node) → t ≡ take p s (get_or js k 0 - 1) (o.join s (get_or js k 0 - 1)) → Taking g l js absent s₀ t (k + 1)
+          taking_next t is = record {
+            some = rw is ((goal_steps g l w.some.kept).taking s j taking_takes.free w.some);
+            left = rw is (rw (eq-eqb (mark s j) 1 h) at next);
+          }
 
   pub taking_end : length js ≤ k → live s ≡ whole
   unfolding with_all
@@ -155,9 +143,6 @@ module _ (g : Goal) (l js absent : List ℕ) (s₀ s : Node) (k : ℕ) (w : Taki
 
 -- the absent columns left, then the agreed ones taken
 module _ (g : Goal) (l : List ℕ) (s : Node) (agreed absent : List ℕ) (b : Begins g l s agreed absent) where
-  pub begins-absent : Numbers 256 absent
-  begins-absent = numbers-low _ absent b.absent b.some.kept.small.fits.wide
-
   pub begins_takeable : (t : Node) → t ≡ without (columns_of absent) s → Takeable g l t agreed
   begins_takeable t e = record {
     some = rw e (without_good (matrix_in l) b.some.kept.small.fits (search_for g (matrix_in l)) (IsPlan (matrix_in l)) (WorkableFor g l)

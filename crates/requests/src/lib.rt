@@ -3,7 +3,6 @@
 #![tactic(auto)]
 
 ghost use Rattle.std.specs.Prelude.{◌≡◌};
-ghost use Rattle.node.specs.Lists.{member};
 ghost use Rattle.node.specs.Matrix.{Matrix};
 ghost use Rattle.node.specs.Stored.{matrix_in};
 ghost use Rattle.rules.specs.Agreed.{without, with_all, agreed_start, struck};
@@ -21,29 +20,13 @@ fn leave_all(mut s: Node, numbers: &[u16]) -> Node
     requires { Numbers 256 numbers.now }
     ensures { result ≡ without (columns_of numbers.now) s }
 {
-    let mut k = 0;
-    while k < numbers.len() {
-        let j = numbers[k] as usize - 1;
-        k += 1;
+    for &number in numbers {
+        let j = number as usize - 1;
         if s.column[j] == 1 {
             s = s.leave(j);
         }
     }
     s
-}
-
-// Whether a list holds a number.
-fn holds(numbers: &[u16], number: u16) -> bool
-    ensures { result ≡ member number numbers.now }
-{
-    let mut k = 0;
-    while k < numbers.len() {
-        if numbers[k] == number {
-            return true;
-        }
-        k += 1;
-    }
-    false
 }
 
 // The agreed columns that are not absent are taken in list sequence, each by the step of forcing; one that is not free at its turn makes
@@ -52,11 +35,8 @@ fn take_all(goal: Goal, mut s: Node, agreed: &[u16], absent: &[u16], matrix: &[u
     requires { Takeable goal matrix.now s agreed.now }
     ensures { (let p : Matrix = matrix_in matrix.now in result ≡ with_all (search_for goal p).join p (columns_of (struck agreed.now absent.now)) s) }
 {
-    let mut k = 0;
-    while k < agreed.len() {
-        let number = agreed[k];
-        k += 1;
-        if !holds(absent, number) {
+    for &number in agreed {
+        if !absent.contains(&number) {
             let j = number as usize - 1;
             if s.column[j] != 1 {
                 return Forced {

@@ -1,11 +1,10 @@
 -- The root's tables: ones at the front of zeros are the marks of the first rows or columns.
 use mathlib.Core.Path.{◌≡◌, refl, ap, ◌∙◌}
 use mathlib.Core.Bool.{Bool, true, false}
-use mathlib.Core.List.{List}
-use Prim.Native.Nat.{ℕ, ◌+◌, ◌≤◌, ◌<◌}
+use mathlib.Core.List.{List, ◌++◌}
+use Prim.Native.Nat.{ℕ, ◌≤◌}
 use native.Mathlib.Omega.{arith}
-use lib.ListN.{length, get_or, replicate, length-replicate, get_or-replicate, get_or-eq_default, set, length-set}
-use borrow.Author.Fill.{fill_none, fill_more}
+use lib.ListN.{length, take, drop, length-take, get_or, replicate, length-replicate, get_or-replicate, get_or-eq_default}
 use lib.Dec.{ltb}
 use borrow.Author.Tests.{ltb-true, ltb-false}
 use Rattle.node.specs.Lists.{on, table}
@@ -31,27 +30,12 @@ ones-table n m h =
     rw (length-replicate {A = ℕ} n 1) at (zeros-after (replicate n 1) m (rw (length-replicate {A = ℕ} n 1) h)) in
     z ∙ simp (ones-at n)
 
--- the marks that are set one after another
-pub record Marked (marks₀ : List ℕ) (n : ℕ) (marks : List ℕ) (i : ℕ) : Type 0 where
-  pub fits : n ≤ length marks₀
-  pub within : i ≤ n
-  pub long : length marks ≡ length marks₀
-  pub is : marks ≡ ones i marks₀
-
-pub marked_start : (marks : List ℕ) (n : ℕ) → n ≤ length marks → Marked marks n marks 0
-marked_start marks n h = record { fits = h; within = omega arith; long = refl; is = fill_none marks 1 }
-
-module _ (marks₀ : List ℕ) (n : ℕ) (marks : List ℕ) (i : ℕ) (w : Marked marks₀ n marks i) where
-  pub marked_next : i < n → Marked marks₀ n (set marks i 1) (i + 1)
-  marked_next h = record {
-    fits = w.fits;
-    within = omega arith;
-    long = length-set marks i 1 ∙ w.long;
-    is = ap (λ (l : List ℕ). set l i 1) w.is ∙ fill_more i 1 marks₀ (omega (arith, w.fits));
-  }
-
-  pub marked-end : n ≤ i → marks ≡ ones n marks₀
-  marked-end h = let e : i ≡ n = omega (arith, w.within) in rw e at w.is
+-- zeros of which the first are filled with ones
+pub filled : (front : List ℕ) (m n k : ℕ) → n ≤ m → k ≡ n → front ≡ replicate (length {A = ℕ} (take k (replicate m 0))) 1 →
+    front ++ drop k (replicate m 0) ≡ ones n (replicate m 0)
+filled front m n k h i e =
+    let l : length {A = ℕ} (take k (replicate m 0)) ≡ n = simp (length-take, length-replicate) (omega arith) in
+    rw (e, l, i)
 
 pub root_is : (p : Matrix) (costs column row : List ℕ) → FitsNode p → length costs ≡ 256 → column ≡ ones (width p) (replicate 256 0) →
     row ≡ ones p.rows (replicate 64 0) → record { cost = costs; column = column; row = row; bound = 0 } ≡ root p costs

@@ -2,28 +2,25 @@
 #![tactic(auto)]
 
 ghost use Rattle.std.specs.Prelude.{◌≡◌, length};
-ghost use Rattle.refusals.specs.Refusals.{filled};
+ghost use Rattle.refusals.specs.Refusals.{outcome, filled};
 ghost use Rattle.dutyfile.specs.File.{lists, parse, render};
 ghost use Rattle.dutyfile.specs.Faults.{reading, writing};
-ghost use Rattle.examine.specs.Answer.{read_outcome};
-ghost use Rattle.writer.specs.Answer.{write_outcome};
 ghost use Rattle.roundtrip.specs.Back.{read_back, written_back};
 
-use dutyfile::Edition;
-use examine::ReadAnswer;
-use writer::WriteAnswer;
+use dutyfile::{Edition, Shape};
+use refusals::Refusal;
 
 // Writes a file by the public call of its edition.
-fn write_by(
+pub fn write_by(
     edition: Edition,
     rows: u16,
     costs: &[i32],
     lengths: &[u16],
     numbers: &[u8],
     out: &mut [u8],
-) -> WriteAnswer
-    ensures result_value { write_outcome result ≡ writing (lists edition rows costs.now lengths.now numbers.now) (length out.old) }
-    ensures out_after { out.new ≡ filled (write_outcome result) (render (lists edition rows costs.now lengths.now numbers.now)) out.old }
+) -> Result<usize, Refusal>
+    ensures result_value { outcome result ≡ writing (lists edition rows costs.now lengths.now numbers.now) (length out.old) }
+    ensures out_after { out.new ≡ filled (outcome result) (render (lists edition rows costs.now lengths.now numbers.now)) out.old }
 {
     match edition {
         Edition::Spp1 => writer::write(rows, costs, lengths, numbers, out),
@@ -42,23 +39,15 @@ pub fn write_read(
     costs_read: &mut [i32],
     lengths_read: &mut [u16],
     numbers_read: &mut [u8],
-) -> ReadAnswer
-    ensures result_value { read_outcome result ≡ read_back (lists edition rows costs.now lengths.now numbers.now) (length file.old) (length costs_read.old) (length lengths_read.old) (length numbers_read.old) }
-    ensures costs_read_after { costs_read.new ≡ filled (read_outcome result) costs.now costs_read.old }
-    ensures lengths_read_after { lengths_read.new ≡ filled (read_outcome result) lengths.now lengths_read.old }
-    ensures numbers_read_after { numbers_read.new ≡ filled (read_outcome result) numbers.now numbers_read.old }
+) -> Result<Shape, Refusal>
+    ensures result_value { outcome result ≡ read_back (lists edition rows costs.now lengths.now numbers.now) (length file.old) (length costs_read.old) (length lengths_read.old) (length numbers_read.old) }
+    ensures costs_read_after { costs_read.new ≡ filled (outcome result) costs.now costs_read.old }
+    ensures lengths_read_after { lengths_read.new ≡ filled (outcome result) lengths.now lengths_read.old }
+    ensures numbers_read_after { numbers_read.new ≡ filled (outcome result) numbers.now numbers_read.old }
     ensures file_after { file.new ≡ filled (writing (lists edition rows costs.now lengths.now numbers.now) (length file.old)) (render (lists edition rows costs.now lengths.now numbers.now)) file.old }
 {
-    let written = write_by(edition, rows, costs, lengths, numbers, file);
-    match written {
-        WriteAnswer::Refused(why) => ReadAnswer::Refused(why),
-        WriteAnswer::Written(size) => reader::read(
-            &file[0..size],
-            costs_read,
-            lengths_read,
-            numbers_read,
-        ),
-    }
+    let size = write_by(edition, rows, costs, lengths, numbers, file)?;
+    reader::read(&file[0..size], costs_read, lengths_read, numbers_read)
 }
 
 // Reads a file and writes the lists that it filled, by its edition: the bytes written are the file.
@@ -68,28 +57,20 @@ pub fn read_write(
     lengths: &mut [u16],
     numbers: &mut [u8],
     out: &mut [u8],
-) -> WriteAnswer
-    ensures result_value { write_outcome result ≡ written_back file.now (length costs.old) (length lengths.old) (length numbers.old) (length out.old) }
-    ensures out_after { out.new ≡ filled (write_outcome result) file.now out.old }
+) -> Result<usize, Refusal>
+    ensures result_value { outcome result ≡ written_back file.now (length costs.old) (length lengths.old) (length numbers.old) (length out.old) }
+    ensures out_after { out.new ≡ filled (outcome result) file.now out.old }
     ensures costs_after { costs.new ≡ filled (reading file.now (length costs.old) (length lengths.old) (length numbers.old)) (parse file.now).costs costs.old }
     ensures lengths_after { lengths.new ≡ filled (reading file.now (length costs.old) (length lengths.old) (length numbers.old)) (parse file.now).lengths lengths.old }
     ensures numbers_after { numbers.new ≡ filled (reading file.now (length costs.old) (length lengths.old) (length numbers.old)) (parse file.now).numbers numbers.old }
 {
-    let found = reader::read(file, costs, lengths, numbers);
-    match found {
-        ReadAnswer::Refused(why) => WriteAnswer::Refused(why),
-        ReadAnswer::Accepted(shape) => {
-            let edition = shape.edition;
-            let columns = shape.columns;
-            let entries = shape.entries;
-            write_by(
-                edition,
-                shape.rows as u16,
-                &costs[0..columns],
-                &lengths[0..columns],
-                &numbers[0..entries],
-                out,
-            )
-        }
-    }
+    let found = reader::read(file, costs, lengths, numbers)?;
+    write_by(
+        found.edition,
+        found.rows as u16,
+        &costs[0..found.columns],
+        &lengths[0..found.columns],
+        &numbers[0..found.entries],
+        out,
+    )
 }

@@ -10,6 +10,7 @@ use lib.Dec.{eqb, eqb-suc-suc}
 use lib.IntN.{ℤ}
 use lib.ListN.{get_or}
 use Rattle.refusals.specs.Refusals.{Fault, fine, fault, accepted}
+use Rattle.std.specs.Prelude.{Some, None}
 use Rattle.node.specs.Lists.{keep, upto, on}
 use Rattle.node.specs.Matrix.{Matrix, width, count, signed_price, IsPlan, named}
 use Rattle.node.proofs.Members.{member-keep, member-upto}
@@ -19,11 +20,11 @@ use Rattle.dutyfile.specs.Faults.{file_fault, rows_fault}
 use Rattle.dutyfile.proofs.Facts.{Accepted, file-fine}
 use Rattle.dutyfile.proofs.Columns.{file-width}
 use Rattle.dutyfile.proofs.Rising.{bodies-rise, numbers-rise, numbers-member}
-use Rattle.verify.specs.Verdict.{plan, verdict, checking}
+use Rattle.verify.specs.declared.Verdict.TheVariants.{Plan}
+use Rattle.verify.specs.Verdict.{verdict, checking}
 use Rattle.verify.proofs.Totals.{signed-price-same, file-costs}
 use Rattle.verify.proofs.Meaning.{verdict-plan, plan-verdict}
 use Rattle.verify.proofs.Verdicts.{checking-done}
-use Rattle.desk.specs.declared.ReplyAnswer.TheVariants.{Plan, NoPlan}
 use Rattle.desk.specs.Desk.{Desk, changes, replying}
 use Rattle.desk.specs.Steps.{step_fault, stepped, moved_by, emptied}
 use Rattle.desk.proofs.Ways.{passed, fault-none, step-refused, step_idle, step-done, empty_made}
@@ -140,25 +141,25 @@ module _ (file : List ℕ) (ok : file_fault file ≡ fine) where
           w.off
           ∙ total-zero p.rows (λ i. on (not (eqb (count p i X) 1)) 1) (λ i l. rw (sym (count_same p i (named listed) X listed-is) ∙ h i l))
 
-      gives : d.counts.off ≡ 0 → checking file listed ≡ accepted (plan (signed_price p costs X))
-      gives z = checked ∙ ap accepted (plan-verdict p costs (named listed) (covers z) ∙ ap plan priced)
+      gives : d.counts.off ≡ 0 → checking file listed ≡ accepted (Plan (signed_price p costs X))
+      gives z = checked ∙ ap accepted (plan-verdict p costs (named listed) (covers z) ∙ ap Plan priced)
 
-      replies : d.counts.off ≡ 0 → reply_of d ≡ Plan (signed_price p costs X)
+      replies : d.counts.off ≡ 0 → reply_of d ≡ Some (signed_price p costs X)
       unfolding replying
-      replies z = rw (eq-eqb d.counts.off 0 z) (ap Plan w.total)
+      replies z = rw (eq-eqb d.counts.off 0 z) (ap Some w.total)
 
-      replies_none : (d.counts.off ≡ 0 → ⊥) → reply_of d ≡ NoPlan
+      replies_none : (d.counts.off ≡ 0 → ⊥) → reply_of d ≡ None
       unfolding replying
       replies_none n = rw (ne_eqb d.counts.off 0 n)
 
       agrees : Agrees (reply_of d) (checking file listed)
       agrees = go (eqb d.counts.off 0) refl
         where
-          tells : (c : ℤ) → checking file listed ≡ accepted (plan c) → reply_of d ≡ Plan c
+          tells : (c : ℤ) → checking file listed ≡ accepted (Plan c) → reply_of d ≡ Some c
           tells c e =
-              let q : verdict p costs (named listed) ≡ plan c = let z = sym checked ∙ e in cc in
+              let q : verdict p costs (named listed) ≡ Plan c = let z = sym checked ∙ e in cc in
               let v = verdict-plan p costs (named listed) c q in
-              replies (covered v.covers) ∙ ap Plan (sym priced ∙ v.priced)
+              replies (covered v.covers) ∙ ap Some (sym priced ∙ v.priced)
 
           go : (t : Bool) → eqb d.counts.off 0 ≡ t → Agrees (reply_of d) (checking file listed)
           go true e =
@@ -169,7 +170,7 @@ module _ (file : List ℕ) (ok : file_fault file ≡ fine) where
                 otherwise = λ h. absurd (h (signed_price p costs X) (gives z));
               }
           go false e =
-              let n : reply_of d ≡ NoPlan = replies_none (eqb-false d.counts.off 0 e) in
+              let n : reply_of d ≡ None = replies_none (eqb-false d.counts.off 0 e) in
               record {
                 told = λ y h. absurd (let r = sym h ∙ n in let q : ◌≡◌ {A = ℕ} 0 1 = cc in omega arith);
                 tells = tells;

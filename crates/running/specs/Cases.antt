@@ -1,5 +1,5 @@
 -- Worked lists of steps (02, P7): the reply after each, the numbers of a desk stepped over another file, and what a step says.
-use Rattle.std.specs.Prelude.{◌≡◌, refl, List, [], ◌∷◌, ◌++◌, ℕ, pos, negsuc, take}
+use Rattle.std.specs.Prelude.{◌≡◌, refl, List, [], ◌∷◌, ◌++◌, ℕ, pos, negsuc, take, Some, None}
 use Rattle.endian.specs.Bytes.{same}
 use Rattle.refusals.specs.Refusals.{ask, ◌then◌, accepted, refused, unless}
 use Rattle.dutyfile.specs.declared.Edition.TheVariants.{Spp1, Spp2}
@@ -8,9 +8,9 @@ use Rattle.dutyfile.specs.Faults.{rising, counts_fault, column_fault, entry_faul
 use Rattle.signed.specs.Signed.{bits, sum32, difference32}
 use Rattle.counts.specs.Counts.{off_by, row_moved, rows_moved}
 use Rattle.desk.specs.declared.Way.TheVariants.{Adding, Removing}
-use Rattle.desk.specs.declared.ReplyAnswer.TheVariants.{Plan, NoPlan}
+use Rattle.desk.specs.declared.Said.TheVariants.{Changed, Unchanged}
 use Rattle.desk.specs.Desk.{Desk, desk_of, empty_desk, changes, count_change, new_total, new_mark, moved, replying}
-use Rattle.desk.specs.Steps.{changed, unchanged, step_fault, stepping, after, moved_by, stepped}
+use Rattle.desk.specs.Steps.{step_fault, stepping, after, moved_by, stepped}
 use Rattle.running.specs.Running.{Step, run, reply_of}
 
 -- m 3, {1,3} at 5, {2} at 7, {2,3} at 2; m 2, {1,2} at 9; and an SPP2 file (02, P10): m 3, {1,3} at -5, {2} at 5, {2} at 0
@@ -60,7 +60,7 @@ Replies =
     -- any desk: the reply is from the last two numbers alone
     ∷ reply_of (desk_of [] [] 0 (negsuc 2))
     ∷ [])
-    ≡ (NoPlan ∷ Plan (pos 12) ∷ Plan (pos 12) ∷ NoPlan ∷ NoPlan ∷ Plan (pos 12) ∷ Plan (pos 12) ∷ Plan (negsuc 2) ∷ [])
+    ≡ (None ∷ Some (pos 12) ∷ Some (pos 12) ∷ None ∷ None ∷ Some (pos 12) ∷ Some (pos 12) ∷ Some (negsuc 2) ∷ [])
 
 -- prices below 0 and of 0
 abbrev Earnings : Type 0
@@ -71,7 +71,7 @@ Earnings =
     ∷ reply_of (after_mail (add 2 ∷ add 1 ∷ remove 1 ∷ remove 2 ∷ add 3 ∷ add 1 ∷ []))
     ∷ reply_of (after_mail (add 1 ∷ add 3 ∷ remove 1 ∷ []))
     ∷ [])
-    ≡ (Plan (pos 0) ∷ Plan (negsuc 4) ∷ Plan (negsuc 4) ∷ NoPlan ∷ [])
+    ≡ (Some (pos 0) ∷ Some (negsuc 4) ∷ Some (negsuc 4) ∷ None ∷ [])
 
 -- a desk made over one file and stepped over another
 abbrev Others : Type 0
@@ -103,7 +103,7 @@ Sayings =
     -- the file is tested before the number
     ∷ stepping Adding (take 20 three) 0 (empty_desk 3)
     ∷ [])
-    ≡ (accepted changed ∷ accepted unchanged ∷ accepted unchanged ∷ refused 19 ∷ refused 19 ∷ refused 3 ∷ [])
+    ≡ (accepted Changed ∷ accepted Unchanged ∷ accepted Unchanged ∷ refused 19 ∷ refused 19 ∷ refused 3 ∷ [])
 
 desk_cases : Replies × Earnings × Others × Sayings
 unfolding same ask ◌then◌ unless edition_in entries_of entries parse contents header render sum bodies instance rising counts_fault column_fault entry_fault entries_fault bodies_fault header_fault contents_fault end_fault rows_fault file_fault sum32 difference32 off_by row_moved rows_moved empty_desk changes count_change new_total new_mark moved replying step_fault stepping after moved_by stepped run

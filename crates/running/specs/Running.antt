@@ -1,13 +1,13 @@
 -- A list of steps from an empty desk over one file, and what the plan check says of the columns that are then in (02, P7).
-use Rattle.std.specs.Prelude.{◌≡◌, Bool, true, false, cond, List, [], ◌∷◌, map, ℕ, suc, eqb, ℤ}
+use Rattle.std.specs.Prelude.{◌≡◌, Bool, true, false, cond, List, [], ◌∷◌, map, ℕ, suc, eqb, ℤ, Option, Some, None}
 use Rattle.refusals.specs.Refusals.{Outcome, accepted}
 use Rattle.node.specs.Lists.{keep, upto}
 use Rattle.dutyfile.specs.File.{columns_in}
-use Rattle.verify.specs.Verdict.{Verdict, plan, checking}
+use Rattle.verify.specs.declared.Verdict.{Verdict}
+use Rattle.verify.specs.declared.Verdict.TheVariants.{Plan}
+use Rattle.verify.specs.Verdict.{checking}
 use Rattle.desk.specs.declared.Way.{Way}
 use Rattle.desk.specs.declared.Way.TheVariants.{Adding, Removing}
-use Rattle.desk.specs.declared.ReplyAnswer.{ReplyAnswer}
-use Rattle.desk.specs.declared.ReplyAnswer.TheVariants.{Plan, NoPlan}
 use Rattle.desk.specs.Desk.{Desk, replying}
 use Rattle.desk.specs.Steps.{stepped, emptied}
 
@@ -38,14 +38,14 @@ unfoldable pub columns_after : List ℕ → List Step → List ℕ
 columns_after file vs = map suc (keep (in_after vs (λ j. false)) (upto (columns_in file)))
 
 -- the reply of a desk
-abbrev pub reply_of : Desk → ReplyAnswer
+abbrev pub reply_of : Desk → Option ℤ
 reply_of d = replying d.counts.off d.total
 
 -- a reply is a plan with its cost exactly when the check gives that plan and cost, else no plan
-pub record Agrees (reply : ReplyAnswer) (check : Outcome Verdict) : Type 0 where
-  pub told : (z : ℤ) → reply ≡ Plan z → check ≡ accepted (plan z)
-  pub tells : (z : ℤ) → check ≡ accepted (plan z) → reply ≡ Plan z
-  pub otherwise : ((z : ℤ) → check ≡ accepted (plan z) → ⊥) → reply ≡ NoPlan
+pub record Agrees (reply : Option ℤ) (check : Outcome Verdict) : Type 0 where
+  pub told : (z : ℤ) → reply ≡ Some z → check ≡ accepted (Plan z)
+  pub tells : (z : ℤ) → check ≡ accepted (Plan z) → reply ≡ Some z
+  pub otherwise : ((z : ℤ) → check ≡ accepted (Plan z) → ⊥) → reply ≡ None
 
 -- 02's claim, of a file, a desk made empty over it, and a list of steps
 abbrev pub Running : List ℕ → Desk → List Step → Type 0

@@ -31,7 +31,9 @@ use Rattle.lists.specs.Loaded.{Loaded}
 use Rattle.tally.specs.Tally.{taken_in}
 use Rattle.solver.specs.declared.Solved.{Solved}
 use Rattle.solver.specs.Solved.{Searchable, solved_answer}
+use Rattle.refusals.specs.declared.Refusal.{Refusal}
 use Rattle.answer.specs.declared.SearchAnswer.{SearchAnswer}
+use Rattle.std.specs.Prelude.{Result}
 use Rattle.answer.specs.Answer.{Values, search_outcome, values_of, plan_numbers}
 use Rattle.answer.specs.Plan.{PlanFits}
 use Rattle.answer.proofs.Given.{kept-shown}
@@ -42,7 +44,7 @@ use Rattle.search.proofs.Listed.{numbers, listed}
 use Rattle.search.proofs.Demanded.{demanded, signed_demanded}
 
 -- demand 3 of what is answered
-abbrev Demanded : Goal → List ℕ → ℕ → Requests → SearchAnswer → List ℕ → Type 0
+abbrev Demanded : Goal → List ℕ → ℕ → Requests → Result SearchAnswer Refusal → List ℕ → Type 0
 Demanded g file limit q r list = (v : Values) → search_outcome r ≡ accepted v → DemandFor g file limit q v list
 
 -- a file that is read, with its root, for a call that passes its tests
@@ -51,6 +53,10 @@ pub record Rooted (s : List ℕ) (limit places : ℕ) (q : Requests) (found : Sh
   pub file : Loaded s found l costs
   pub fits : call_fault_with found places limit q ≡ fine
   pub is : first ≡ root (matrix_in l) costs
+
+pub rooted : {s : List ℕ} {limit places : ℕ} {q : Requests} {found : Shape} {l costs : List ℕ} {first : Node} → Loaded s found l costs
+    → call_fault_with found places limit q ≡ fine → first ≡ root (matrix_in l) costs → Rooted s limit places q found l first
+rooted k h e = record { costs = _; file = k; fits = h; is = e }
 
 -- a file of SPP1 passes the first test of either call
 pub first_fine : (g : Goal) (s : List ℕ) → spp1_fault s ≡ fine → first_fault g s ≡ fine
@@ -133,7 +139,7 @@ module _ (g : Goal) (s : List ℕ) (limit places : ℕ) (q : Requests) where
               omega (arith, plan-short p small js x.listed x.ok.ok.ok, rw w.file.is at w.file.rows_is, r);
         }
 
-        module _ (r : SearchAnswer) (by : ℕ) (so : by ≡ shift found.edition found.rows)
+        module _ (r : Result SearchAnswer Refusal) (by : ℕ) (so : by ≡ shift found.edition found.rows)
             (told : search_outcome r ≡ accepted (values_of by (solved_answer found.columns done))) where
           by-is : by ≡ added s
           unfolding shape

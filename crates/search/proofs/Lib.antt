@@ -1,4 +1,5 @@
 mod Paired
+mod Ranges
 mod Listed
 -- Demand 3, of what passes its tests.
 pub mod Demanded

@@ -2,24 +2,19 @@
 // search as the program does, and the columns of the plan that is shown.
 #![tactic(auto)]
 
+// std prints by a Display, which would assume two more contracts of C functions than the kit's io.
 fn say(text: &[u8]) {
     io::write_all(1, text);
 }
 
-fn say_number(n: u16) {
-    say(b" ");
-    io::print_decimal(1, n as u64);
-}
-
 // The columns at the front of a list that was lent with 0 at each place.
 fn say_plan(plan: &[u16]) {
-    let mut k = 0;
-    while k < plan.len() {
-        if plan[k] == 0 {
+    for &column in plan {
+        if column == 0 {
             return;
         }
-        say_number(plan[k]);
-        k += 1;
+        say(b" ");
+        io::print_decimal(1, u64::from(column));
     }
 }
 
@@ -31,16 +26,15 @@ fn show_file(file: &[u8], limit: u32) {
     say(b"\n");
 }
 
-// The number that a text has in decimal from its second character on.
+// The number that a text has in decimal from its second character on. No parse: any character counts as a digit, by its last four bits, and
+// the number ends once it is 100,000,000 or more.
 fn number(text: &[u8]) -> u32 {
     let mut n = 0;
-    let mut i = 1;
-    while i < text.len() {
+    for character in text.iter().skip(1) {
         if n >= 100000000 {
             return n;
         }
-        n = n * 10 + (text[i] % 16) as u32;
-        i += 1;
+        n = n * 10 + u32::from(character % 16);
     }
     n
 }
@@ -54,6 +48,7 @@ fn show_line(name: &[u8], limit: &[u8], text: &[u8]) {
     show_file(&file[0..n], number(limit));
 }
 
+// No split into lines: a line with fewer than two spaces runs on into the next.
 fn show_lines(s: &[u8]) {
     let mut at = 0;
     while at < s.len() {

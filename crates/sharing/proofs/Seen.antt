@@ -7,7 +7,7 @@ use Prim.Native.Nat.{ℕ, ◌+◌, ◌≤◌, ◌<◌}
 use native.Mathlib.Nat.{zero-add}
 use native.Mathlib.Omega.{arith}
 use lib.ListN.{length, get_or, set, take, length-set}
-use lib.Seq.{take_all, get_or-set_same, get_or-set_other}
+use lib.Seq.{get_or-set_same, get_or-set_other}
 use lib.Dec.{eqb}
 use borrow.Author.Tests.{eqb-true, eqb-false, le-ltb, lt-ltb}
 use Rattle.node.specs.Lists.{keep, member, upto, on}
@@ -149,6 +149,3 @@ module _ (z : ℕ → Bool) (row before seen : List ℕ) (count k : ℕ) (w : Ma
 
     pub marking_other : z (get_or row k 0) ≡ false → Marking z row before seen count (k + 1)
     marking_other f = same (λ t. absurd (false≢true (sym f ∙ t)))
-
-  pub marking_end : length row ≤ k → Counted z row before seen count
-  marking_end h = rw (take_all k row h) at w.done

@@ -7,7 +7,6 @@ use mathlib.Core.Logic.{⊎_elim}
 use Prim.Native.Nat.{ℕ, suc, ◌+◌, ◌-◌, ◌≤◌, ◌<◌}
 use native.Mathlib.Omega.{arith}
 use lib.ListN.{length, get_or, take, get_or-eq_default}
-use lib.Seq.{take_all}
 use lib.Dec.{eqb, ltb}
 use borrow.Author.Tests.{le-ltb, ltb-true, ltb-false}
 use Rattle.node.specs.declared.Node.{Node}
@@ -164,10 +163,3 @@ module _ (l cost column rs seen : List ℕ) (count k : ℕ) (w : Sharing l cost 
         go : (a b c : Bool) → ((a && b) || (a && c)) ≡ (a && (b || c))
         go true b c = refl
         go false b c = refl
-
-pub sharing-end : (l cost column rs seen : List ℕ) (count k : ℕ) → Sharing l cost column rs seen count k → length rs ≤ k →
-    count ≡ sharing_in (matrix_in l) (zero_in cost column) rs
-sharing-end l cost column rs seen count k w h =
-    w.counts
-    ∙ ap length (keep_cong (is_seen seen) (λ j. zero_in cost column j && common rs (body (matrix_in l) j)) (columns (matrix_in l))
-    (λ j m. rw (take_all k rs h) at (w.marks j)))

@@ -8,49 +8,42 @@ ghost use Rattle.signed.specs.Signed.{signed, bits, sum32, difference32};
 pub fn from_bits(x: u32) -> i32
     ensures { result ≡ signed x }
 {
-    if x < 2147483648 {
-        return x as i32;
-    }
-    -1 - ((4294967295 - x) as i32)
+    x.cast_signed()
 }
 
 // The bits of a number.
 pub fn to_bits(z: i32) -> u32
     ensures { result ≡ bits z }
 {
-    if z < 0 {
-        return 4294967295 - ((-1 - z) as u32);
-    }
-    z as u32
+    z.cast_unsigned()
 }
 
 // The sum at 32 bits, wrapping.
+#[tactic(auto, unfolding(crate::specs::Signed::sum32))]
 pub fn wrapping_add(a: i32, b: i32) -> i32
     ensures { result ≡ sum32 a b }
 {
-    from_bits(std::num::wrapping_add_u32(to_bits(a), to_bits(b)))
+    a.wrapping_add(b)
 }
 
 // The difference at 32 bits, wrapping.
+#[tactic(auto, unfolding(crate::specs::Signed::difference32))]
 pub fn wrapping_sub(a: i32, b: i32) -> i32
     ensures { result ≡ difference32 a b }
 {
-    from_bits(std::num::wrapping_sub_u32(to_bits(a), to_bits(b)))
+    a.wrapping_sub(b)
 }
 
 // The same number, in 64 bits.
 pub fn wide(z: i32) -> i64
     ensures { result ≡ z }
 {
-    z as i64
+    i64::from(z)
 }
 
 // A number without its sign.
 pub fn magnitude(z: i64) -> u64
     ensures { result ≡ unsigned_abs z }
 {
-    if z < 0 {
-        return ((-1 - z) as u64) + 1;
-    }
-    z as u64
+    z.unsigned_abs()
 }

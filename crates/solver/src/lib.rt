@@ -32,7 +32,7 @@ pub fn search_live(goal: Goal, first: Node, matrix: &[u16], side: &[u16], limit:
     let fresh = fresh_tally(limit);
     let tally = tree::node(goal, first, fresh, matrix, side);
     Solved {
-        tally: tally,
+        tally,
         bound: root.bound,
     }
 }

@@ -25,11 +25,3 @@ pub reached : (c b : ℕ) (js : List ℕ) (k : Bool) → (k && leb c b) ≡ reac
 unfolding kept_by reaches
 reached c b js true = refl
 reached c b js false = refl
-
--- a test that only an incumbent is put to
-module _ (k t : Bool) where
-  pub tested : k ≡ true → t ≡ (k && t)
-  tested h = rw h
-
-  pub untested : k ≡ false → false ≡ (k && t)
-  untested h = rw h

@@ -1,7 +1,7 @@
 // The tally of a walk.
 #![tactic(auto)]
 
-ghost use Rattle.std.specs.Prelude.{◌≡◌, true, ◌&&◌, ℕ, ◌+◌, ◌<◌, leb};
+ghost use Rattle.std.specs.Prelude.{◌≡◌, ◌&&◌, ℕ, ◌+◌, ◌<◌, leb};
 ghost use Rattle.rules.specs.Limited.{fresh, entered, halted, offered};
 ghost use Rattle.tally.specs.Tally.{taken_in, shown};
 
@@ -39,45 +39,28 @@ pub fn fresh_tally(limit: u32) -> Tally
 }
 
 // A node is entered.
-pub fn enter(t: Tally) -> Tally
+pub fn enter(mut t: Tally) -> Tally
     requires { (0 < t.left) × (t.nodes + t.left < 4294967296) }
     ensures { (w : ℕ) → shown w result ≡ entered (shown w t) }
 {
-    let mut u = t;
-    u.nodes = t.nodes + 1;
-    u.left = t.left - 1;
-    u
+    t.nodes += 1;
+    t.left -= 1;
+    t
 }
 
 // A node would be entered and none is left.
-pub fn halt(t: Tally) -> Tally
+pub fn halt(mut t: Tally) -> Tally
     ensures { (w : ℕ) → shown w result ≡ halted (shown w t) }
 {
-    let mut u = t;
-    u.stopped = true;
-    u
+    t.stopped = true;
+    t
 }
 
 // Whether there is an incumbent and a bound is not below its cost.
 pub fn is_reached(bound: u32, kept: bool, cost: u32) -> bool
     ensures { result ≡ (kept && leb cost bound) }
 {
-    if kept {
-        return cost <= bound;
-    }
-    false
-}
-
-// The taken columns of a node are the incumbent.
-fn keep(t: Tally, s: Node) -> Tally
-    ensures { result ≡ record { nodes = t.nodes; left = t.left; stopped = t.stopped; kept = true; cost = s.bound; plan = s.column } }
-{
-    let mut u = t;
-    let plan = s.column;
-    u.kept = true;
-    u.cost = s.bound;
-    u.plan = plan;
-    u
+    kept && cost <= bound
 }
 
 // A plan is met: the taken columns of a node with no open row.
@@ -87,5 +70,11 @@ pub fn offer(t: Tally, s: Node) -> Tally
     if is_reached(s.bound, t.kept, t.cost) {
         return t;
     }
-    keep(t, s)
+    let plan = s.column;
+    Tally {
+        kept: true,
+        cost: s.bound,
+        plan,
+        ..t
+    }
 }

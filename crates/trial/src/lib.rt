@@ -26,14 +26,11 @@ fn append(
     ensures numbers_after { numbers.new ≡ sets numbers.old found.entries (from (found.rows - k) (suc k)) }
 {
     let extra = found.rows - k;
-    let columns = found.columns;
-    let entries = found.entries;
-    let mut i = 0;
-    while i < extra {
-        costs[columns + i] = 1;
-        lengths[columns + i] = 1;
-        numbers[entries + i] = (k + 1 + i) as u8;
-        i += 1;
+    let end = found.columns + extra;
+    costs[found.columns..end].fill(1);
+    lengths[found.columns..end].fill(1);
+    for i in 0..extra {
+        numbers[found.entries + i] = (k + 1 + i) as u8;
     }
 }
 
@@ -53,8 +50,9 @@ pub fn search_trial(
     let mut all_lengths = lengths;
     let mut all_numbers = numbers;
     append(found, k, &mut all_costs, &mut all_lengths, &mut all_numbers);
-    let columns = found.columns + (found.rows - k);
-    let entries = found.entries + (found.rows - k);
+    let extra = found.rows - k;
+    let columns = found.columns + extra;
+    let entries = found.entries + extra;
     let mut matrix = matrix::no_cells();
     lists::fill_matrix(
         found.rows,
@@ -65,6 +63,5 @@ pub fn search_trial(
     let edition = found.edition;
     let raised = raising::raise_all(edition, &all_costs[0..columns], &all_lengths[0..columns]);
     let first = root::root_node(&matrix, raised);
-    let none = [0u16; 0];
-    solver::search_live(Goal::Sum, first, &matrix, &none, limit)
+    solver::search_live(Goal::Sum, first, &matrix, &[], limit)
 }

@@ -22,7 +22,9 @@ use Rattle.trials.specs.Told.{Told}
 use Rattle.trials.proofs.Extended.{Extendable}
 use Rattle.trials.proofs.Told.{finding-told}
 use Rattle.trial.specs.Ready.{held, Ready}
+use Rattle.refusals.specs.declared.Refusal.{Refusal}
 use Rattle.uncrewed.specs.declared.UncrewedAnswer.{UncrewedAnswer}
+use Rattle.std.specs.Prelude.{Result}
 use Rattle.uncrewed.specs.Answer.{Values, uncrewed_outcome, values_of, shown_of, seen, trials_fault, uncrewed_fault, file_uncrewed_fault, uncrewed_list, Sized}
 
 -- what a desk reads of the answer that is seen
@@ -110,7 +112,7 @@ module _ (s : List ℕ) (limit places : ℕ) where
       unfolding call_fault
       has_room = leb-true _ _ (asked _ 10 (both _ _ call_fits).0)
 
-      module _ (r : UncrewedAnswer) (told : uncrewed_outcome r ≡ accepted (values_of (finding (held found costs lengths numbers) limit))) where
+      module _ (r : Result UncrewedAnswer Refusal) (told : uncrewed_outcome r ≡ accepted (values_of (finding (held found costs lengths numbers) limit))) where
         pub given-answer : uncrewed_outcome r ≡ answered
         unfolding file_uncrewed_fault
         given-answer =

@@ -7,7 +7,7 @@ use native.Mathlib.Omega.{arith}
 use lib.IntN.{ℤ}
 use lib.Dec.{eqb}
 use lib.ListN.{length, get_or, replicate, length-map}
-use Rattle.refusals.specs.Refusals.{accepted, front}
+use Rattle.refusals.specs.Refusals.{front}
 use Rattle.node.specs.Lists.{keep, upto}
 use Rattle.rules.specs.Search.{Answer, best, none, stopped, nothing, plan, shown_by}
 use Rattle.dutyfile.specs.declared.Shape.{Shape}
@@ -21,7 +21,7 @@ use Rattle.trials.specs.Trials.{trial, own, Finding, no_crew, plan_exists, stopp
 use Rattle.trials.proofs.Searched.{keep-below, trial-short}
 use Rattle.trial.specs.Ready.{held, Ready}
 use Rattle.uncrewed.specs.declared.UncrewedAnswer.TheVariants.{NoCrew, PlanExists, Stopped}
-use Rattle.uncrewed.specs.Answer.{uncrewed_outcome, values_of, shown_of}
+use Rattle.uncrewed.specs.Answer.{told, values_of, shown_of}
 
 -- no column is marked
 zero-at : (n j : ℕ) → get_or {A = ℕ} (replicate n 0) j 0 ≡ 0
@@ -86,14 +86,14 @@ module _ (found : Shape) (costs : List ℤ) (lengths numbers : List ℕ) (limit 
     }
 
     pub running_end : found.rows < k
-        → (uncrewed_outcome PlanExists ≡ accepted (values_of (finding d limit))) × (shown ≡ front (shown_of (finding d limit)) shown₀)
-    unfolding trials_from uncrewed_outcome values_of shown_of front
+        → (told PlanExists ≡ values_of (finding d limit)) × (shown ≡ front (shown_of (finding d limit)) shown₀)
+    unfolding trials_from told values_of shown_of front
     running_end l =
         let s : suc found.rows - k ≡ 0 = omega (arith, l) in
         let is : plan_exists ≡ finding d limit = rw s at w.left in
         rw (← is) (refl, w.same)
 
-    module _ (low : k ≤ found.rows) (done : Solved) (told : solved_answer (found.columns + (found.rows - k)) done ≡ trial d limit k) where
+    module _ (low : k ≤ found.rows) (done : Solved) (solved : solved_answer (found.columns + (found.rows - k)) done ≡ trial d limit k) where
       next : List ℕ → Finding
       next js = trials_from d limit (found.rows - k) (suc k) (own (length d.costs) js)
 
@@ -102,26 +102,26 @@ module _ (found : Shape) (costs : List ℤ) (lengths numbers : List ℕ) (limit 
       judging = let s : suc found.rows - k ≡ suc (found.rows - k) = omega (arith, low) in rw s at w.left
 
       pub ends-stopped : done.tally.kept ≡ false → done.tally.stopped ≡ true
-          → (uncrewed_outcome (Stopped k) ≡ accepted (values_of (finding d limit))) × (shown ≡ front (shown_of (finding d limit)) shown₀)
-      unfolding judged uncrewed_outcome values_of shown_of front
+          → (told (Stopped k) ≡ values_of (finding d limit)) × (shown ≡ front (shown_of (finding d limit)) shown₀)
+      unfolding judged told values_of shown_of front
       ends-stopped e f =
-          let is : stopped_at k ≡ finding d limit = rw (sym told ∙ answer-stopped _ done e f) at judging in
+          let is : stopped_at k ≡ finding d limit = rw (sym solved ∙ answer-stopped _ done e f) at judging in
           rw (← is) (refl, w.same)
 
       pub ends-shown : done.tally.kept ≡ false → done.tally.stopped ≡ false → (count : ℕ) (new : List ℕ)
           → count ≡ length (taken_in found.columns marks) → new ≡ front (shows marks) shown
-          → (uncrewed_outcome (NoCrew (record { row = k; columns = count })) ≡ accepted (values_of (finding d limit)))
+          → (told (NoCrew (record { row = k; columns = count })) ≡ values_of (finding d limit))
           × (new ≡ front (shown_of (finding d limit)) shown₀)
-      unfolding judged uncrewed_outcome values_of shown_of
+      unfolding judged told values_of shown_of
       ends-shown e f count new c n =
-          let is : no_crew k (shows marks) ≡ finding d limit = rw (sym told ∙ answer-none _ done e f) at judging in
+          let is : no_crew k (shows marks) ≡ finding d limit = rw (sym solved ∙ answer-none _ done e f) at judging in
           rw (← is) (rw (c, length-map (taken_in found.columns marks) suc), rw w.same at n)
 
       pub running_next : done.tally.kept ≡ true → Running shown₀ shown done.tally.plan (k + 1)
       unfolding own next
       running_next e =
           let js : List ℕ = taken_in (found.columns + (found.rows - k)) done.tally.plan in
-          let s : shown_by (trial d limit k) ≡ plan done.tally.cost js = rw told at (kept-shown (found.columns + (found.rows - k)) done e) in
+          let s : shown_by (trial d limit k) ≡ plan done.tally.cost js = rw solved at (kept-shown (found.columns + (found.rows - k)) done e) in
           let o : own (length d.costs) js ≡ shows done.tally.plan =
           rw w.ready.columns_is (ap (map suc) (keep-below (λ j. eqb (get_or done.tally.plan j 0) 2) found.columns (found.rows - k))) in
           let a : found.rows - k ≡ suc found.rows - (k + 1) = omega arith in

@@ -1,13 +1,14 @@
 -- The call that finds which sailings can't be crewed (02, P6): its tests, what it comes to, and what its list holds.
-use Rattle.std.specs.Prelude.{List, [], ℕ, ◌+◌, ◌-◌, ◌≤◌, leb, length, take}
+use Rattle.std.specs.Prelude.{List, [], ℕ, ◌+◌, ◌-◌, ◌≤◌, leb, length, take, Result, Ok, Err}
 use Rattle.refusals.specs.Refusals.{Fault, ask, ◌then◌, Outcome, accepted, refused, unless, number_of}
+use Rattle.refusals.specs.declared.Refusal.{Refusal}
 use Rattle.dutyfile.specs.declared.Shape.{Shape}
 use Rattle.dutyfile.specs.File.{parse, shape}
 use Rattle.dutyfile.specs.Faults.{file_fault, spp1_fault}
 use Rattle.search.specs.Searching.{call_fault}
 use Rattle.trials.specs.Trials.{Finding, no_crew, plan_exists, stopped_at, finding}
 use Rattle.uncrewed.specs.declared.UncrewedAnswer.{UncrewedAnswer}
-use Rattle.uncrewed.specs.declared.UncrewedAnswer.TheVariants.{NoCrew, PlanExists, Stopped, Refused}
+use Rattle.uncrewed.specs.declared.UncrewedAnswer.TheVariants.{NoCrew, PlanExists, Stopped}
 
 -- the values that 02 names
 pub data Values : Type 0 where
@@ -15,12 +16,16 @@ pub data Values : Type 0 where
   is_plan : Values
   told_stopped : ℕ → Values  -- k
 
+-- what an answer of the code says, in these terms
+unfoldable pub told : UncrewedAnswer → Values
+told (NoCrew r) = is_no_crew r.row r.columns
+told PlanExists = is_plan
+told (Stopped k) = told_stopped k
+
 -- what the call answers: these values, or a refusal with its number
-unfoldable pub uncrewed_outcome : UncrewedAnswer → Outcome Values
-uncrewed_outcome (NoCrew r) = accepted (is_no_crew r.row r.columns)
-uncrewed_outcome PlanExists = accepted is_plan
-uncrewed_outcome (Stopped k) = accepted (told_stopped k)
-uncrewed_outcome (Refused why) = refused (number_of why)
+unfoldable pub uncrewed_outcome : Result UncrewedAnswer Refusal → Outcome Values
+uncrewed_outcome (Ok a) = accepted (told a)
+uncrewed_outcome (Err why) = refused (number_of why)
 
 -- the values of a finding, and the columns that it shows
 unfoldable pub values_of : Finding → Values

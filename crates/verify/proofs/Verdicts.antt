@@ -9,7 +9,8 @@ use Rattle.dutyfile.specs.File.{rows_in, columns_in, parse, instance, shape}
 use Rattle.dutyfile.specs.Faults.{rising, file_fault}
 use Rattle.dutyfile.proofs.Columns.{file-width, body-rises}
 use Rattle.verify.specs.Counts.{none_covered, counted_all}
-use Rattle.verify.specs.Verdict.{plan, not_once, lowest, verdict, checking}
+use Rattle.verify.specs.declared.Verdict.TheVariants.{Plan, NotOnce}
+use Rattle.verify.specs.Verdict.{lowest, verdict, checking}
 use Rattle.verify.proofs.Sums.{tally-total}
 use Rattle.verify.proofs.Counting.{counted_all_at}
 use Rattle.verify.proofs.Walk.{file_matrix, offered_price, Offered, none-at}
@@ -19,7 +20,7 @@ module _ (covered : ℕ → ℕ) (cost : ℤ) (m i : ℕ) (inside : i < m) where
   more : m - i ≡ suc (m - (i + 1))
   more = omega arith
 
-  pub lowest-stop : (covered i ≡ 1 → ⊥) → lowest covered cost (m - i) i ≡ not_once (i + 1) (covered i)
+  pub lowest-stop : (covered i ≡ 1 → ⊥) → lowest covered cost (m - i) i ≡ NotOnce (i + 1) (covered i)
   unfolding lowest
   lowest-stop h = rw (more, add-one i) (simp (lowest, ne_eqb _ _ h))
 
@@ -27,7 +28,7 @@ module _ (covered : ℕ → ℕ) (cost : ℤ) (m i : ℕ) (inside : i < m) where
   unfolding lowest
   lowest_next h = rw (more, add-one i) (simp (lowest, eq-eqb _ _ h))
 
-pub lowest-end : (covered : ℕ → ℕ) (cost : ℤ) (m i : ℕ) → m ≤ i → lowest covered cost (m - i) i ≡ plan cost
+pub lowest-end : (covered : ℕ → ℕ) (cost : ℤ) (m i : ℕ) → m ≤ i → lowest covered cost (m - i) i ≡ Plan cost
 unfolding lowest
 lowest-end covered cost m i h =
     let e : m - i ≡ 0 = omega arith in

@@ -5,6 +5,7 @@ use mathlib.Core.List.{List, []}
 use Prim.Native.Nat.{ℕ, zero, suc, ◌+◌, ◌-◌, ◌^◌, ◌≤◌, ◌<◌}
 use native.Mathlib.Omega.{arith}
 use lib.Dec.{eqb}
+use Rattle.std.specs.Int.Count.{ones}
 use lib.ListN.{length, get_or, set, length-set, replicate, length-replicate}
 use lib.Seq.{get_or-set_same, get_or-set_other}
 use borrow.Author.Tests.{eqb-true, eqb-false}
@@ -15,7 +16,7 @@ use Rattle.assignments.proofs.Sets.{weight_one, with-below, count-with}
 use Rattle.assignments.proofs.Picks.{pick_same, offers-same}
 use Rattle.assignments.proofs.Best.{total_cap}
 use Rattle.vessel_sets.specs.Table.{offers_in, Low, Row, Sized, least_left, Filled}
-use Rattle.vessel_sets.proofs.Loops.{weight_small}
+use Rattle.vessel_sets.proofs.Loops.{ones_count, weight_small}
 
 -- a table of zeros
 zeros-low : (n : ℕ) → Low (replicate n 0)
@@ -85,8 +86,11 @@ module _ (t : List (List ℕ)) (m n : ℕ) (d : List ℕ) (s : ℕ) (w : Filling
       low u true q = rw (eqb-true u (s - 1) q, get_or-set_same d (s - 1) v 0 inside, e) (total_cap t n _ _ _)
       low u false q = rw (get_or-set_other d (s - 1) u v 0 (eqb-false u (s - 1) q)) (w.filled.low u)
 
-  pub filling_place : s - 1 < 65536
+  filling_place : s - 1 < 65536
   filling_place = omega (arith, w.within, weight_small n w.problem.few)
+
+  pub filling_count : ones (s - 1) ≡ count 16 (s - 1)
+  filling_count = ones_count 16 (s - 1) filling_place
 
   module _ (i : ℕ) (e : i ≡ count 16 (s - 1)) where
     module _ (some : i < m) where

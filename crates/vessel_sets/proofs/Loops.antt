@@ -1,24 +1,22 @@
 -- The loops over the vessels: at vessel j, what is left to look at gives the whole.
-use mathlib.Core.Path.{◌≡◌, refl, sym}
+use mathlib.Core.Path.{◌≡◌, refl, sym, ◌∙◌, ap}
 use mathlib.Core.List.{List}
-use Prim.Native.Nat.{ℕ, suc, ◌+◌, ◌-◌, ◌*◌, ◌^◌, ◌/◌, ◌%◌, ◌≤◌, ◌<◌}
+use Prim.Native.Nat.{ℕ, zero, suc, ◌+◌, ◌-◌, ◌*◌, ◌^◌, ◌/◌, ◌%◌, ◌≤◌, ◌<◌}
 use native.Mathlib.Nat.{div-one, pow-suc, div-div-eq-div-mul, pow-le-pow_right}
 use native.Mathlib.Numerals.{add-one}
 use native.Mathlib.Omega.{arith}
 use lib.ListN.{get_or}
+use Rattle.std.specs.Int.Count.{ones, ones_step, ones-le}
 use Rattle.assignments.specs.declared.Pick.{Pick}
 use Rattle.assignments.specs.Sets.{has, offer, lower, pick_from, count}
 use Rattle.assignments.proofs.Sets.{with-below}
 use Rattle.vessel_sets.specs.Table.{offers_in, Row, Reach}
 
--- counting the vessels of a set
-pub count-step : (j s : ℕ) → j < 16 → count (16 - j) s ≡ s % 2 + count (16 - (j + 1)) (s / 2)
+-- the vessels of a set of n are the digits that are set
+pub ones_count : (n s : ℕ) → s < 2 ^ n → ones s ≡ count n s
 unfolding count
-count-step j s h = let e : 16 - j ≡ suc (16 - (j + 1)) = omega arith in rw e
-
-pub count-end : (j s : ℕ) → 16 ≤ j → count (16 - j) s ≡ 0
-unfolding count
-count-end j s h = let e : 16 - j ≡ 0 = omega arith in rw e
+ones_count zero s h = omega (arith, ones-le 0 s h)
+ones_count (suc n) s h = ones_step s ∙ ap (λ x. s % 2 + x) (ones_count n (s / 2) (omega (arith, pow-suc 2 n)))
 
 -- weights
 pub weight_small : (j : ℕ) → j ≤ 16 → 2 ^ j ≤ 65536
@@ -47,9 +45,6 @@ module _ (n s w rest j : ℕ) (a : At n s w rest j) (h : j < n) where
   module _ (row d : List ℕ) (r : Row row n d s) where
     pub at_small : w ≤ 65536
     at_small = rw a.weighs (weight_small j (omega (arith, r.few)))
-
-    pub at_read : j < 16
-    at_read = omega (arith, r.few)
 
     pub at_reach : Reach (get_or row j 0) d s w rest
     unfolding has

@@ -1,11 +1,12 @@
 -- The walk: at crew i, the vessels that are left to write give the whole list.
 use mathlib.Core.Path.{◌≡◌, refl, sym, ◌∙◌, ap}
 use mathlib.Core.List.{List, [], map}
-use Prim.Native.Nat.{ℕ, suc, ◌+◌, ◌-◌, ◌^◌, ◌≤◌, ◌<◌}
+use Prim.Native.Nat.{ℕ, suc, ◌+◌, ◌-◌, ◌*◌, ◌^◌, ◌%◌, ◌≤◌, ◌<◌}
 use native.Mathlib.Numerals.{add-one}
 use native.Mathlib.Omega.{arith}
 use lib.ListN.{length, length-map, get_or, set, length-set}
 use lib.Seq.{sets}
+use Rattle.std.proofs.lemmas.Nat.{one_shl}
 use Rattle.refusals.specs.Refusals.{front}
 use Rattle.refusals.proofs.Laws.{front-sets}
 use Rattle.assignments.specs.declared.Pick.{Pick}
@@ -47,12 +48,6 @@ module _ (t : List (List ℕ)) (m n : ℕ) (d old new : List ℕ) (s i : ℕ) (w
   walking_place = omega (arith, w.set, weight_small n w.problem.few)
 
   module _ (h : i < m) where
-    pub walking_crew : i < 16
-    walking_crew = omega (arith, w.problem.fits, w.problem.few)
-
-    pub walking_write : i < length new
-    walking_write = omega (arith, w.room, w.sized)
-
     pub walking_row : Row (get_or t i []) n d s
     walking_row = row_of t m n w.problem d i s h w.set w.table.low
 
@@ -73,6 +68,9 @@ module _ (t : List (List ℕ)) (m n : ℕ) (d old new : List ℕ) (s i : ℕ) (w
 
       pub walking_low : p.vessel < 16
       walking_low = omega (arith, is-taken.inside, w.problem.few)
+
+      pub walking_weight : 1 * 2 ^ p.vessel % 2 ^ 64 ≡ 2 ^ p.vessel
+      walking_weight = one_shl p.vessel 64 (omega (arith, walking_low))
 
       pub walking_next : (v : ℕ) → v ≡ 2 ^ p.vessel → Walking t m n d old (set new i (p.vessel + 1)) (s + v) (i + 1)
       unfolding vessels_from

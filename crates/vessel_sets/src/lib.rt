@@ -2,41 +2,12 @@
 // vessel j, counted from 0, weighs 2 to the power j; as many crews have their vessel as the set holds.
 #![tactic(auto)]
 
-ghost use Rattle.std.specs.Prelude.{◌≡◌, map, suc, ◌+◌, ◌^◌, ◌%◌, ◌<◌, ◌≤◌, get_or, length};
+ghost use Rattle.std.specs.Prelude.{◌≡◌, map, suc, ◌+◌, ◌%◌, ◌<◌, ◌≤◌, get_or, length};
 ghost use Rattle.refusals.specs.Refusals.{front};
-ghost use Rattle.assignments.specs.Sets.{no_total, offer, lower, pick as pick_of, least_total, vessels as vesselsOf, count as count_of};
+ghost use Rattle.assignments.specs.Sets.{no_total, offer, lower, pick as pick_of, least_total, vessels as vesselsOf};
 ghost use Rattle.vessel_sets.specs.Table.{offers_in, Low, Row, Reach, Sized, Filled};
 
 use assignments::Pick;
-
-// How many vessels a set holds.
-fn count(s: usize) -> usize
-    ensures { result ≡ count_of 16 s }
-{
-    let mut c = 0;
-    let mut rest = s;
-    let mut j: usize = 0;
-    while j < 16 {
-        c += rest % 2;
-        rest /= 2;
-        j += 1;
-    }
-    c
-}
-
-// What vessel j weighs in a set.
-fn weight(j: usize) -> usize
-    requires { j ≤ 16 }
-    ensures { result ≡ 2 ^ j }
-{
-    let mut w = 1;
-    let mut k = 0;
-    while k < j {
-        w *= 2;
-        k += 1;
-    }
-    w
-}
 
 // What a vessel of weight w comes to for a crew, where `rest` is the set s without the vessels below it. The place is read before the
 // tests, in range for any set, so that they choose between two values and no branch goes by the set: twice as fast.
@@ -59,18 +30,15 @@ fn cheaper(best: Pick, cost: u32, vessel: usize) -> Pick
     ensures { result ≡ lower best cost vessel }
 {
     if cost < best.cost {
-        return Pick {
-            cost: cost,
-            vessel: vessel,
-        };
+        return Pick { cost, vessel };
     }
     best
 }
 
 // The cheapest vessel for a crew with these costs, and of equals the lowest.
-fn pick(row: [u32; 16], vessels: usize, least: &[u32; 65536], s: usize) -> Pick
-    requires { Row row vessels least.now s }
-    ensures { result ≡ pick_of (offers_in row least.now s) vessels }
+fn pick(row: &[u32; 16], vessels: usize, least: &[u32; 65536], s: usize) -> Pick
+    requires { Row row.now vessels least.now s }
+    ensures { result ≡ pick_of (offers_in row.now least.now s) vessels }
 {
     let mut best = Pick {
         cost: 1000000000,
@@ -78,12 +46,10 @@ fn pick(row: [u32; 16], vessels: usize, least: &[u32; 65536], s: usize) -> Pick
     };
     let mut w = 1;
     let mut rest = s;
-    let mut j = 0;
-    while j < vessels {
-        best = cheaper(best, vessel_offer(row[j], least, s, w, rest), j);
+    for (j, &cost) in row[..vessels].iter().enumerate() {
+        best = cheaper(best, vessel_offer(cost, least, s, w, rest), j);
         w *= 2;
         rest /= 2;
-        j += 1;
     }
     best
 }
@@ -100,16 +66,13 @@ pub fn fill(table: [[u32; 16]; 16], crews: usize, vessels: usize, least: &mut [u
     requires { Sized table crews vessels × (length least.old ≡ 65536) × Low least.old }
     ensures { Filled table crews vessels 0 least.new }
 {
-    let mut s = weight(vessels);
-    while 0 < s {
-        s -= 1;
-        let crew = count(s);
-        if crew < crews {
-            let best = pick(table[crew], vessels, least, s);
-            least[s] = best.cost;
+    for s in (0..1usize << vessels).rev() {
+        let crew = s.count_ones() as usize;
+        least[s] = if crew < crews {
+            pick(&table[crew], vessels, least, s).cost
         } else {
-            least[s] = 0;
-        }
+            0
+        };
     }
 }
 
@@ -125,11 +88,9 @@ pub fn walk(
     ensures { answer.new ≡ front (map suc (vesselsOf table crews vessels)) answer.old }
 {
     let mut s = 0;
-    let mut crew = 0;
-    while crew < crews {
-        let best = pick(table[crew], vessels, least, s);
+    for crew in 0..crews {
+        let best = pick(&table[crew], vessels, least, s);
         answer[crew] = (best.vessel + 1) as u8;
-        s += weight(best.vessel);
-        crew += 1;
+        s += 1 << best.vessel;
     }
 }

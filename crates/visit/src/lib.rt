@@ -22,17 +22,16 @@ fn is_full(row: &[u8; 64], matrix: &[u16]) -> bool
     ensures { result ≡ is_empty (open_rows (matrix_in matrix.now) (view [] [] row.now)) }
 {
     let rows = row_count(matrix);
-    let mut i = 0;
-    while i < rows {
+    for i in 0..rows {
         if row[i] == 1 {
             return false;
         }
-        i += 1;
     }
     true
 }
 
-// A node forced, and reduced where it is alive and has open rows.
+// A node forced, and reduced where it is alive and has open rows. No Option, as in rules::Forced: the node stands in either case, since the
+// bound of a dead root is answered too (solver::search_live).
 #[derive(Clone, Copy)]
 pub struct Settled {
     pub node: Node,
@@ -52,14 +51,14 @@ pub fn settle(goal: Goal, s: Node, matrix: &[u16], side: &[u16]) -> Settled
     let mut node = forced.node;
     if !forced.alive {
         return Settled {
-            node: node,
+            node,
             alive: false,
             full: false,
         };
     }
     if is_full(&node.row, matrix) {
         return Settled {
-            node: node,
+            node,
             alive: true,
             full: true,
         };
@@ -74,7 +73,7 @@ pub fn settle(goal: Goal, s: Node, matrix: &[u16], side: &[u16]) -> Settled
         }
     }
     Settled {
-        node: node,
+        node,
         alive: true,
         full: false,
     }

@@ -1,5 +1,5 @@
 -- The walk over the bodies: each is the next part of the row numbers, and those that are left come to what all of them come to.
-use mathlib.Core.Path.{◌≡◌, refl, ap, sym, ◌∙◌}
+use mathlib.Core.Path.{◌≡◌, ap, sym, ◌∙◌}
 use mathlib.Core.Bool.{Bool, true, false}
 use mathlib.Core.List.{List, ◌∷◌}
 use Prim.Native.Nat.{ℕ, ◌+◌, ◌-◌, ◌≤◌, ◌<◌}
@@ -14,14 +14,10 @@ use Rattle.dutyfile.proofs.Rising.{bodies-stop, bodies_next, bodies-none}
 
 -- at body j, which starts at a place of the row numbers
 pub record Testing (rows : ℕ) (lengths numbers : List ℕ) (start j : ℕ) : Type 0 where
-  pub within : j ≤ length lengths
   pub whole : start + sum (drop j lengths) ≡ length numbers
   pub left : bodies_fault rows (bodies (drop j lengths) (drop start numbers)) ≡ bodies_fault rows (bodies lengths numbers)
 
 module _ (rows : ℕ) (lengths numbers : List ℕ) where
-  pub testing_start : length numbers ≡ sum lengths → Testing rows lengths numbers 0 0
-  testing_start e = record { within = omega arith; whole = omega arith; left = refl }
-
   module _ (start j : ℕ) (w : Testing rows lengths numbers start j) where
     module _ (inside : j < length lengths) where
       split : drop j lengths ≡ get_or lengths j 0 ∷ drop (j + 1) lengths
@@ -44,7 +40,6 @@ module _ (rows : ℕ) (lengths numbers : List ℕ) where
 
         pub testing_next : r ≡ true → Testing rows lengths numbers (start + get_or lengths j 0) (j + 1)
         testing_next h = record {
-          within = omega arith;
           whole = testing_whole;
           left = sym (ap (bodies_fault rows) here ∙ bodies_next rows _ _ (sym told ∙ h)) ∙ w.left;
         }

@@ -1,17 +1,18 @@
--- The rows left to test give the whole.
-use mathlib.Core.Path.{sym, ◌∙◌}
+-- Each of the rows is tested.
+use mathlib.Core.Path.{◌∙◌}
+use mathlib.Core.List.{[]}
+use lib.ListN.{take, get_or}
 use native.Mathlib.Omega.{arith}
-use Rattle.assign.proofs.Tests.{all_start, all_fails, all_next, all_end}
+use borrow.Author.Rules.{rules}
+use Rattle.std.proofs.Common.{tests}
+use Rattle.std.proofs.lemmas.Iterator.{YieldsList-from_slice}
+use Rattle.std.proofs.lemmas.Iterator.Search.{all_from_yields_List}
+use Rattle.assign.specs.Answer.{row_fits}
+use Rattle.assign.proofs.Tests.{all_front}
 use Rattle.assign.proofs.costs_fit.Goals as goal
 
-pub loop-i-init : goal.loop-i-init
-loop-i-init c = (omega arith, all_start _ _)
-
-pub returns-then-not-row_fits : goal.returns-then-not-row_fits
-returns-then-not-row_fits c = all_fails _ _ _ c.loop-i-test.true (sym c.row_fits.ensures ∙ c.if-not-row_fits.true) ∙ c.loop-i.invariant.1
-
-pub loop-i-preserved : goal.loop-i-preserved
-loop-i-preserved c = (omega arith, all_next _ _ _ c.loop-i-test.true (sym c.row_fits.ensures ∙ c.if-not-row_fits.false) ∙ c.loop-i.invariant.1)
-
 pub returns : goal.returns
-returns c = all_end _ _ _ c.loop-i-test.false ∙ c.loop-i.invariant.1
+returns c =
+    all_from_yields_List (λ row. row_fits (λ j. get_or row j 0) c.args.vessels) _ _ _ c.all.ensures.ran (YieldsList-from_slice (take c.args.crews c.args.table) cc)
+    (λ x b q k. search (rules, tests))
+    ∙ all_front (λ row. row_fits (λ j. get_or row j 0) c.args.vessels) [] c.args.table c.args.crews (omega arith)

@@ -1,18 +1,16 @@
--- The prices left to test give the whole.
+-- Each of the costs is tested.
 use mathlib.Core.Path.{◌∙◌}
+use lib.Dec.{leb}
+use lib.ListN.{take}
 use native.Mathlib.Omega.{arith}
-use borrow.Author.Tests.{le-leb, lt-leb}
-use Rattle.assign.proofs.Tests.{all_start, all_fails, all_next, all_end}
+use borrow.Author.Rules.{rules}
+use Rattle.std.proofs.Common.{tests}
+use Rattle.std.proofs.lemmas.Iterator.{YieldsList-from_slice}
+use Rattle.std.proofs.lemmas.Iterator.Search.{all_from_yields_List}
+use Rattle.assign.proofs.Tests.{all_front}
 use Rattle.assign.proofs.row_fits.Goals as goal
 
-pub loop-j-init : goal.loop-j-init
-loop-j-init c = (omega arith, all_start _ _)
-
-pub returns-then-row-j-gt1000000 : goal.returns-then-row-j-gt1000000
-returns-then-row-j-gt1000000 c = all_fails _ _ _ c.loop-j-test.true (lt-leb _ _ c.if-row-j-gt1000000.true) ∙ c.loop-j.invariant.1
-
-pub loop-j-preserved : goal.loop-j-preserved
-loop-j-preserved c = (omega arith, all_next _ _ _ c.loop-j-test.true (le-leb _ _ c.if-row-j-gt1000000.false) ∙ c.loop-j.invariant.1)
-
 pub returns : goal.returns
-returns c = all_end _ _ _ c.loop-j-test.false ∙ c.loop-j.invariant.1
+returns c =
+    all_from_yields_List (λ x. leb x 1000000) _ _ _ c.all.ensures.ran (YieldsList-from_slice (take c.args.vessels c.args.row) cc) (λ x b q k. search (rules, tests))
+    ∙ all_front (λ x. leb x 1000000) 0 c.args.row c.args.vessels (omega arith)

@@ -1,7 +1,6 @@
 -- Each way out of the tests is one case of the definition.
 use borrow.Author.Tests.{eq-eqb, ne_eqb, lt-ltb, le-ltb}
 use Rattle.candidates.specs.Row.{joined}
-use Rattle.node.proofs.Loops.{min-left, min_right}
 use Rattle.candidates.proofs.join.Goals as goal
 
 pub returns-then-a-eq0 : goal.returns-then-a-eq0
@@ -16,10 +15,6 @@ pub returns-then-cost-a-2 : goal.returns-then-cost-a-2
 unfolding joined
 returns-then-cost-a-2 c = rw (ne_eqb _ _ c.if-a-eq0.false, le-ltb _ _ c.if-cost-a.false, ne_eqb _ _ c.if-cost-a-2.true)
 
-pub returns-then-a-size : goal.returns-then-a-size
-unfolding joined
-returns-then-a-size c = rw (ne_eqb _ _ c.if-a-eq0.false, le-ltb _ _ c.if-cost-a.false, eq-eqb _ _ c.if-cost-a-2.false, min-left _ _ c.if-a-size.true)
-
 pub returns : goal.returns
 unfolding joined
-returns c = rw (ne_eqb _ _ c.if-a-eq0.false, le-ltb _ _ c.if-cost-a.false, eq-eqb _ _ c.if-cost-a-2.false, min_right _ _ c.if-a-size.false)
+returns c = rw (ne_eqb _ _ c.if-a-eq0.false, le-ltb _ _ c.if-cost-a.false, eq-eqb _ _ c.if-cost-a-2.false) cc

@@ -1,18 +1,11 @@
 -- The better of the best row and the one whose columns are the part of the matrix.
 use mathlib.Core.Path.{ap, ◌∙◌}
-use native.Mathlib.Omega.{arith}
 use Rattle.node.specs.Passes.{better}
 use Rattle.node.specs.Stored.{matrix_in}
-use Rattle.node.proofs.Parts.{row_low, row-few}
+use Rattle.node.proofs.Parts.{row-few}
 use Rattle.choice.specs.Row.{precedes}
 use Rattle.choice.proofs.Row.{row_is}
 use Rattle.choice.proofs.better_row.Goals as goal
-
-pub row_part-row-requires : goal.row_part-row-requires
-row_part-row-requires c = c.requires
-
-pub overflow_cast-i : goal.overflow_cast-i
-overflow_cast-i c = omega (arith, row_low _ _ c.requires)
 
 pub better_of-requires : goal.better_of-requires
 better_of-requires c = row-few (matrix_in _) c.requires.kept.small _ _ c.row_part-row.ensures

@@ -7,6 +7,6 @@ pub returns-then-cost-eq0 : goal.returns-then-cost-eq0
 unfolding joined
 returns-then-cost-eq0 c = rw (eq-eqb _ _ c.if-cost-eq0.true)
 
-pub returns : goal.returns
+pub returns-else-cost-eq0 : goal.returns-else-cost-eq0
 unfolding joined
-returns c = rw (ne_eqb _ _ c.if-cost-eq0.false, c.lower_penalty-penalty.ensures)
+returns-else-cost-eq0 c = rw (ne_eqb _ _ c.if-cost-eq0.false, c.lower_penalty.ensures)

@@ -1,4 +1,4 @@
--- The first criterion in which the candidates differ decides. c1 to c5 are the cases, x the candidates.
+-- The first criterion in which the candidates differ decides. x holds the candidates.
 use Rattle.criteria.proofs.Criteria.{by-free, by_ties, by-cost, by-short, by_row, by-none}
 use Rattle.criteria.proofs.comes_before.Goals as goal
 

@@ -9,10 +9,11 @@ pub overflow_sub-number : goal.overflow_sub-number
 overflow_sub-number c = (passed _ _ c.requires.passes).1
 
 pub slice_bounds-move_column-end : goal.slice_bounds-move_column-end
-slice_bounds-move_column-end c = omega (arith, (found-column _ _ _ c.requires).inside)
+slice_bounds-move_column-end c = omega (arith, c.from-start.ensures, c.from.ensures, (found-column _ _ _ c.requires).inside)
 
 pub move_column-requires : goal.move_column-requires
-move_column-requires c = found_ready _ _ _ c.requires
+move_column-requires c = rw (c.from-start.ensures, c.from.ensures) (found_ready _ _ _ c.requires)
 
 pub returns : goal.returns
-returns c = (rw (given _ c.from_bits-cost.type_inv, c.from_bits-cost.ensures) at c.move_column.ensures) ∙ found-moved _ _ _ c.requires _ _
+returns c =
+    (rw (given _ c.from_bits-cost.type_inv, c.from_bits-cost.ensures, c.from-start.ensures, c.from.ensures) at c.move_column.ensures) ∙ found-moved _ _ _ c.requires _ _

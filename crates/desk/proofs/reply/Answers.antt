@@ -1,12 +1,17 @@
 -- By whether a row is off.
-use borrow.Author.Tests.{ne_eqb}
+use mathlib.Core.Path.{◌≡◌, refl, ap, ◌∙◌}
+use mathlib.Core.Bool.{Bool, true, false, cond}
+use lib.Dec.{eqb}
+use mir.Facts.{to_z-of_z}
+use Rattle.std.specs.Prelude.{Some, None}
+use Rattle.std.specs.Bool.{then_some}
 use Rattle.desk.specs.Desk.{replying}
-use Rattle.desk.proofs.Ways.{reply_plan}
 use Rattle.desk.proofs.reply.Goals as goal
 
-pub returns-then-off-eq0 : goal.returns-then-off-eq0
-returns-then-off-eq0 c = reply_plan _ _ c.ranges.total c.if-off-eq0.true
+by_test : {A : Type 0} (t : Bool) (x : A) → then_some t x ≡ cond t (Some x) None
+by_test true x = refl
+by_test false x = refl
 
 pub returns : goal.returns
 unfolding replying
-returns c = simp (replying, ne_eqb _ _ c.if-off-eq0.false)
+returns c = c.then_some.ensures ∙ by_test _ _ ∙ ap (λ z. cond (eqb c.args.off 0) (Some z) None) (to_z-of_z c.ranges.total)

@@ -1,17 +1,6 @@
-use mathlib.Core.Path.{refl, sym, ◌∙◌}
-use native.Mathlib.Nat.{add-zero}
 use native.Mathlib.Omega.{arith}
-use lib.ListN.{length-set}
-use Rattle.endian.proofs.Laws.{sets_end, sets-step}
+use Rattle.endian.proofs.Laws.{sets_part}
 use Rattle.endian.proofs.put.Goals as goal
 
-pub loop-i-init : goal.loop-i-init
-loop-i-init c = (omega arith, refl, rw add-zero)
-
-pub loop-i-preserved : goal.loop-i-preserved
-loop-i-preserved c =
-    let i = c.loop-i.invariant in
-    (omega arith, simp length-set i.1, sym (sets-step _ _ _ _ c.loop-i-test.true) ∙ i.2)
-
 pub returns : goal.returns
-returns c = sym (sets_end _ _ _ _ c.loop-i-test.false) ∙ c.loop-i.invariant.2
+returns c = sets_part _ _ _ _ _ c.copy_from_slice.ensures.after (omega arith) c.requires

@@ -7,6 +7,7 @@ use Rattle.refusals.specs.Refusals.{fault_of}
 use Rattle.dutyfile.specs.File.{bodies_at, entry_of}
 use Rattle.dutyfile.specs.declared.Entry.{Entry}
 use Rattle.dutyfile.proofs.Facts.{header-fine}
+use Rattle.dutyfile.proofs.Rising.{as_they_are}
 use Rattle.dutyfile.proofs.Columns.{ColumnAt}
 use Rattle.contents.proofs.Table.{table_at}
 use Rattle.examine.proofs.Bodies.{testing_start, testing_column, testing_stop, testing_next, testing_end}
@@ -40,26 +41,26 @@ overflow_add-end c =
     testing_column _ _ _ _ c.loop-j.invariant c.loop-j-test.true _ (read d) in
     omega (arith, (column (entry_of [])).inside)
 
-pub slice_bounds-is_rising-end : goal.slice_bounds-is_rising-end
-slice_bounds-is_rising-end c =
+pub slice_bounds-rises-end : goal.slice_bounds-rises-end
+slice_bounds-rises-end c =
     let column : (d : Entry) →
     ColumnAt c.args.file.now c.loop-j.j (get_or c.entries-table.result c.loop-j.j d) = λ d. let read : (d : Entry) →
     get_or c.entries-table.result c.loop-j.j d ≡ entry_of (drop (bodies_at c.loop-j.j) c.args.file.now) = λ d. table_at _ _ _ c.loop-j.invariant.columns_is c.entries-table.ensures _ d c.loop-j-test.true in
     testing_column _ _ _ _ c.loop-j.invariant c.loop-j-test.true _ (read d) in
     omega (arith, (column (entry_of [])).inside)
 
-pub returns-then-not-is_rising : goal.returns-then-not-is_rising
+pub returns-then-not-rises : goal.returns-then-not-rises
 unfolding fault_of
-returns-then-not-is_rising c =
+returns-then-not-rises c =
     let read : (d : Entry) →
     get_or c.entries-table.result c.loop-j.j d ≡ entry_of (drop (bodies_at c.loop-j.j) c.args.file.now) = λ d. table_at _ _ _ c.loop-j.invariant.columns_is c.entries-table.ensures _ d c.loop-j-test.true in
-    testing_stop _ _ _ _ c.loop-j.invariant c.loop-j-test.true _ (read _) _ c.is_rising.ensures (c.if-not-is_rising.true)
+    testing_stop _ _ _ _ c.loop-j.invariant c.loop-j-test.true _ (read _) _ (as_they_are _ _ _ c.rises.ensures) (c.if-not-rises.true)
 
 pub loop-j-preserved : goal.loop-j-preserved
 loop-j-preserved c =
     let read : (d : Entry) →
     get_or c.entries-table.result c.loop-j.j d ≡ entry_of (drop (bodies_at c.loop-j.j) c.args.file.now) = λ d. table_at _ _ _ c.loop-j.invariant.columns_is c.entries-table.ensures _ d c.loop-j-test.true in
-    testing_next _ _ _ _ c.loop-j.invariant c.loop-j-test.true _ (read _) _ c.is_rising.ensures (c.if-not-is_rising.false)
+    testing_next _ _ _ _ c.loop-j.invariant c.loop-j-test.true _ (read _) _ (as_they_are _ _ _ c.rises.ensures) (c.if-not-rises.false)
 
 pub returns : goal.returns
 unfolding fault_of

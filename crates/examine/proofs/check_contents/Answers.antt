@@ -4,9 +4,9 @@ use mathlib.Core.List.{[]}
 use Prim.Native.Nat.{◌+◌}
 use native.Mathlib.Omega.{arith}
 use lib.ListN.{get_or, drop}
-use Rattle.refusals.proofs.Laws.{failed, passed}
+use Rattle.refusals.specs.Refusals.{outcome}
+use Rattle.refusals.proofs.Laws.{failed, passed, handed_on}
 use Rattle.dutyfile.proofs.Facts.{header-fine}
-use Rattle.dutyfile.specs.Answer.{contents_outcome}
 use Rattle.dutyfile.specs.File.{bodies_at, entry_of}
 use Rattle.dutyfile.specs.declared.Entry.{Entry}
 use Rattle.contents.proofs.Table.{table_at}
@@ -33,18 +33,19 @@ bounds-table-j c =
 pub offset_bounds-table-j : goal.offset_bounds-table-j
 offset_bounds-table-j c = (let w = c.loop-j.invariant in omega (arith, w.header.counts.columns.most, w.columns_is))
 
-pub check_entry-tested-requires : goal.check_entry-tested-requires
-check_entry-tested-requires c =
+pub check_entry-requires : goal.check_entry-requires
+check_entry-requires c =
     let w = c.loop-j.invariant in
     omega (arith, w.header.counts.columns.most, w.columns_is)
 
-pub returns-in-Failed : goal.returns-in-Failed
-unfolding contents_outcome
-returns-in-Failed c =
+pub returns-in_err-check_entry : goal.returns-in_err-check_entry
+unfolding outcome
+returns-in_err-check_entry c =
     let read : (d : Entry) →
     get_or c.entries-table.result c.loop-j.j d ≡ entry_of (drop (bodies_at c.loop-j.j) c.args.file.now) = λ d. table_at _ _ _ c.loop-j.invariant.columns_is c.entries-table.ensures _ d c.loop-j-test.true in
-    walking_stop _ _ _ _ _ _ c.loop-j.invariant c.loop-j-test.true _ (read _) _
-    (failed c.check_entry-tested.ensures _ c.in-Failed.is)
+    rw (handed_on _ _ c.from_residual.ensures.1)
+    (walking_stop _ _ _ _ _ _ c.loop-j.invariant c.loop-j-test.true _ (read _) _
+    (failed c.check_entry.ensures _ c.in_err-check_entry.was))
 
 pub overflow_add-total : goal.overflow_add-total
 overflow_add-total c =
@@ -57,7 +58,7 @@ overflow_add-total c =
     (c.loop-j.j + 1) = let read : (d : Entry) →
     get_or c.entries-table.result c.loop-j.j d ≡ entry_of (drop (bodies_at c.loop-j.j) c.args.file.now) = λ d. table_at _ _ _ c.loop-j.invariant.columns_is c.entries-table.ensures _ d c.loop-j-test.true in
     walking_next _ _ _ _ _ _ c.loop-j.invariant c.loop-j-test.true _ (read _)
-    (passed c.check_entry-tested.ensures c.in_default.is) in
+    (passed c.check_entry.ensures c.in_ok-check_entry.was) in
     omega (arith, next.small)
 
 pub loop-j-preserved : goal.loop-j-preserved
@@ -71,9 +72,9 @@ loop-j-preserved c =
     (c.loop-j.j + 1) = let read : (d : Entry) →
     get_or c.entries-table.result c.loop-j.j d ≡ entry_of (drop (bodies_at c.loop-j.j) c.args.file.now) = λ d. table_at _ _ _ c.loop-j.invariant.columns_is c.entries-table.ensures _ d c.loop-j-test.true in
     walking_next _ _ _ _ _ _ c.loop-j.invariant c.loop-j-test.true _ (read _)
-    (passed c.check_entry-tested.ensures c.in_default.is) in
+    (passed c.check_entry.ensures c.in_ok-check_entry.was) in
     next
 
 pub returns : goal.returns
-unfolding contents_outcome
+unfolding outcome
 returns c = walking_end _ _ _ _ _ _ c.loop-j.invariant c.loop-j-test.false

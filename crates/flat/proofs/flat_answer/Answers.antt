@@ -1,47 +1,45 @@
 -- By the arms of the match: a refusal gives its number, and each answer its values; the number of columns fits.
 use mathlib.Core.Path.{ap}
-use native.Mathlib.Omega.{arith}
+use borrow.Author.Rules.{rules}
 use mir.Syntax.{w64}
 use mir.Val.{SFits}
 use mir.Facts.{to_z-of_z}
-use Rattle.answer.specs.Answer.{search_outcome}
+use Rattle.answer.specs.Answer.{search_outcome, told}
 use Rattle.flat.specs.Flat.{answer_of}
 use Rattle.flat.specs.Fits.{columns_in}
-use borrow.Author.Rules.{rules}
 use Rattle.flat.proofs.flat_answer.Goals as goal
 
-pub overflow_cast-plan : goal.overflow_cast-plan
-unfolding search_outcome columns_in
-overflow_cast-plan c = omega (arith, c.requires _ (ap search_outcome c.in-Best.is))
+pub shown-requires : goal.shown-requires
+unfolding search_outcome told columns_in
+shown-requires c = rw c.in-Best.is at (c.requires _ (ap search_outcome c.in-Ok.is))
 
-pub overflow_cast-kept : goal.overflow_cast-kept
-unfolding search_outcome columns_in
-overflow_cast-kept c = omega (arith, c.requires _ (ap search_outcome c.in-StoppedWith.is))
+pub shown-requires-in-StoppedWith : goal.shown-requires-in-StoppedWith
+unfolding search_outcome told columns_in
+shown-requires-in-StoppedWith c = rw c.in-StoppedWith.is at (c.requires _ (ap search_outcome c.in-Ok.is))
 
-pub returns-in-Refused : goal.returns-in-Refused
+pub returns-in-Err : goal.returns-in-Err
 unfolding answer_of search_outcome
-returns-in-Refused c = rw (c.searched.ensures, c.number.ensures, c.in-Refused.is)
+returns-in-Err c =
+    let d = c.default.ensures in
+    rw (c.in-Err.is, c.from.ensures, d.1.0, d.1.1.0, d.1.1.1.0, d.1.1.1.1.0, d.1.1.1.1.1.0, d.1.1.1.1.1.1)
 
 pub returns-in-None : goal.returns-in-None
-unfolding answer_of search_outcome
-returns-in-None c = rw (c.searched-in-None.ensures, c.in-None.is)
+unfolding answer_of search_outcome told
+returns-in-None c =
+    let d = c.default-in-None.ensures in
+    rw (c.in-Ok.is, c.in-None.is, d.0, d.1.1.0, d.1.1.1.0, d.1.1.1.1.1.0, d.1.1.1.1.1.1)
 
 pub returns-in-Stopped : goal.returns-in-Stopped
-unfolding answer_of search_outcome
+unfolding answer_of search_outcome told
 returns-in-Stopped c =
+    let d = c.default-in-Stopped.ensures in
     let f : SFits w64 c.in-Stopped.at.bound = search rules in
-    rw (c.searched-in-Stopped.ensures, c.in-Stopped.is, to_z-of_z f)
+    rw (c.in-Ok.is, c.in-Stopped.is, to_z-of_z f, d.0, d.1.1.0, d.1.1.1.0, d.1.1.1.1.1.0)
 
 pub returns-in-Best : goal.returns-in-Best
-unfolding answer_of search_outcome
-returns-in-Best c =
-    let f : SFits w64 c.in-Best.plan.cost = search rules in
-    let g : SFits w64 c.in-Best.plan.bound = search rules in
-    rw (c.searched-in-Best.ensures, c.in-Best.is, to_z-of_z f, to_z-of_z g)
+unfolding answer_of search_outcome told
+returns-in-Best c = rw (c.in-Ok.is, c.in-Best.is) c.shown.ensures
 
 pub returns-in-StoppedWith : goal.returns-in-StoppedWith
-unfolding answer_of search_outcome
-returns-in-StoppedWith c =
-    let f : SFits w64 c.in-StoppedWith.kept.cost = search rules in
-    let g : SFits w64 c.in-StoppedWith.kept.bound = search rules in
-    rw (c.searched-in-StoppedWith.ensures, c.in-StoppedWith.is, to_z-of_z f, to_z-of_z g)
+unfolding answer_of search_outcome told
+returns-in-StoppedWith c = rw (c.in-Ok.is, c.in-StoppedWith.is) c.shown-in-StoppedWith.ensures

@@ -1,18 +1,18 @@
 -- By the arms of the match: a refusal gives its number, and a file that is written its length, which fits.
 use mathlib.Core.Path.{ap}
 use native.Mathlib.Omega.{arith}
-use Rattle.writer.specs.Answer.{write_outcome}
+use Rattle.refusals.specs.Refusals.{outcome}
 use Rattle.flat.specs.Flat.{written_of}
 use Rattle.flat.proofs.flat_written.Goals as goal
 
-pub overflow_cast-size : goal.overflow_cast-size
-unfolding write_outcome
-overflow_cast-size c = omega (arith, c.requires _ (ap write_outcome c.in-Written.is))
+pub overflow_cast-result : goal.overflow_cast-result
+unfolding outcome
+overflow_cast-result c = omega (arith, c.requires _ (ap outcome c.in-Ok.is))
 
-pub returns-in-Refused : goal.returns-in-Refused
-unfolding written_of write_outcome
-returns-in-Refused c = rw (c.written.ensures, c.number.ensures, c.in-Refused.is)
+pub returns-in-Err : goal.returns-in-Err
+unfolding written_of outcome
+returns-in-Err c = rw (c.in-Err.is, c.from.ensures)
 
-pub returns-in-Written : goal.returns-in-Written
-unfolding written_of write_outcome
-returns-in-Written c = rw (c.written-in-Written.ensures, c.in-Written.is)
+pub returns-in-Ok : goal.returns-in-Ok
+unfolding written_of outcome
+returns-in-Ok c = rw c.in-Ok.is

@@ -1,17 +1,22 @@
 -- By the arms of the match: a refusal gives its number, and an assignment its total.
-use mathlib.Core.Path.{sym, ◌∙◌, ap}
+use mathlib.Core.Path.{◌≡◌}
+use Rattle.std.specs.Prelude.{Some, None}
 use Rattle.assign.specs.Answer.{assign_outcome}
 use Rattle.flat_assign.specs.Struct.{assigned_of}
 use Rattle.flat_assign.proofs.flat_assigned.Goals as goal
 
-pub returns-in-Refused : goal.returns-in-Refused
+pub returns-in-Err : goal.returns-in-Err
 unfolding assigned_of assign_outcome
-returns-in-Refused c = rw (c.assigned.ensures, c.number.ensures, c.in-Refused.is)
+returns-in-Err c = rw (c.assigned.ensures, c.from.ensures, c.in-Err.is)
 
-pub returns-in-None : goal.returns-in-None
+pub returns-in-Ok-None : goal.returns-in-Ok-None
 unfolding assigned_of assign_outcome
-returns-in-None c = c.assigned-in-None.ensures ∙ ap (λ a. assigned_of (assign_outcome a)) (sym c.in-None.is)
+returns-in-Ok-None c =
+    let e : c.in-Ok-None.field-0 ≡ None = rw c.in-Ok-None.is at c.in-Ok-None.field-0-is in
+    rw (c.in-Ok-None.is, e) c.assigned-in-Ok-None.ensures
 
-pub returns-in-Best : goal.returns-in-Best
+pub returns-in-Ok-Some : goal.returns-in-Ok-Some
 unfolding assigned_of assign_outcome
-returns-in-Best c = c.assigned-in-Best.ensures ∙ ap (λ a. assigned_of (assign_outcome a)) (sym c.in-Best.is)
+returns-in-Ok-Some c =
+    let e : c.in-Ok-Some.field-0 ≡ Some c.in-Ok-Some.total = rw c.in-Ok-Some.is at c.in-Ok-Some.field-0-is in
+    rw (c.in-Ok-Some.is, e, ← c.from-in-Ok-Some.ensures) c.assigned-in-Ok-Some.ensures

@@ -6,11 +6,11 @@ use Rattle.flat_desk.proofs.Plans.{plan_struct}
 use borrow.Author.Rules.{rules}
 use Rattle.flat_desk.proofs.flat_reply.Goals as goal
 
-pub returns-in-NoPlan : goal.returns-in-NoPlan
+pub returns-in-None : goal.returns-in-None
 unfolding reply_in
-returns-in-NoPlan c = rw c.in-NoPlan.is
+returns-in-None c = rw c.in-None.is
 
-pub returns-in-Plan : goal.returns-in-Plan
-returns-in-Plan c =
-    let f : SFits w32 c.in-Plan.total = search rules in
-    rw c.in-Plan.is (plan_struct c.in-Plan.total f)
+pub returns-in-Some : goal.returns-in-Some
+returns-in-Some c =
+    let f : SFits w32 c.in-Some.total = search rules in
+    rw c.in-Some.is (plan_struct c.in-Some.total f)

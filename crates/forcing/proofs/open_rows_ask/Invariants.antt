@@ -1,5 +1,4 @@
 -- The open rows that are left give what all of them ask.
-use Prim.Native.Nat.{◌-◌}
 use mathlib.Core.List.{[]}
 use Rattle.node.specs.View.{view}
 use Rattle.forcing.proofs.Asking.{Asking}
@@ -7,6 +6,3 @@ use Rattle.forcing.proofs.open_rows_ask.Given as goal
 
 abbrev pub invariant-loop-i : goal.invariant-loop-i
 invariant-loop-i l = Asking l.matrix (view [] l.column l.row) l.rows l.found l.i
-
-abbrev pub decreases-loop-i : goal.decreases-loop-i
-decreases-loop-i l = l.rows - l.i

@@ -9,4 +9,4 @@ returns-in-Sum c = rw c.in-Sum.is
 
 pub returns-in-Longest : goal.returns-in-Longest
 unfolding join_of
-returns-in-Longest c = c.larger.ensures ∙ rw c.in-Longest.is
+returns-in-Longest c = c.max.ensures ∙ rw c.in-Longest.is

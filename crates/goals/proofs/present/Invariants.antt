@@ -1,10 +1,6 @@
 -- The places that are filled hold the costs less the bound.
-use Prim.Native.Nat.{◌-◌}
 use Rattle.goals.proofs.Costs.{Netting}
 use Rattle.goals.proofs.present.Given as goal
 
 abbrev pub invariant-loop-j : goal.invariant-loop-j
 invariant-loop-j l = Netting l.cost l.bound l.net l.j
-
-abbrev pub decreases-loop-j : goal.decreases-loop-j
-decreases-loop-j l = 256 - l.j

@@ -1,25 +1,21 @@
--- At each place of the text the bytes that are left, put after those that are there, give the whole.
-use borrow.Author.Rules.{rules}
+use mathlib.Core.Path.{◌≡◌}
+use Prim.Native.Nat.{◌+◌, ◌-◌, ◌*◌}
 use native.Mathlib.Omega.{arith}
-use Rattle.hexadecimal.proofs.Laws.{left-none, left-full, decoding_start, decoding_next, decoded_all}
+use Rattle.hexadecimal.proofs.Laws.{left_end, decoding_start, decoding_next, decoded_all}
 use Rattle.hexadecimal.proofs.decode.Goals as goal
 
-pub loop-i-init : goal.loop-i-init
-loop-i-init c = decoding_start _ _
+pub loop-k-init : goal.loop-k-init
+loop-k-init c = decoding_start _ _
 
-pub returns-then-file-n : goal.returns-then-file-n
-returns-then-file-n c =
-    let l = c.loop-i in
-    let d = l.invariant in
-    let t = decoded_all _ _ _ _ _ d (left-full _ _ l.n l.i (omega (arith, d.same_length, c.if-file-n.true))) in record { value = t.1; file_after = t.0; upper_bound = search rules }
+pub loop-k-preserved : goal.loop-k-preserved
+loop-k-preserved c =
+    let k = c.loop-k.k in
+    let next : 2 * k + 2 + 2 ≡ 2 * (k + 1) + 2 = omega arith in
+    let first : 2 * k + 1 ≡ 2 * k + 2 - 1 = omega arith in
+    rw next at (decoding_next _ _ _ _ _ c.loop-k.invariant (omega arith) (omega arith) _ (rw first at c.byte.ensures))
 
-pub loop-i-preserved : goal.loop-i-preserved
-loop-i-preserved c =
-    let d = c.loop-i.invariant in
-    decoding_next _ _ _ _ _ d c.loop-i-test.true c.if-file-n.false _ c.byte.ensures
+pub returns-clause-value : goal.returns-clause-value
+returns-clause-value c = omega (arith, (decoded_all _ _ _ _ _ c.loop-k.invariant (left_end _ _ c.loop-k.k (omega arith))).1)
 
-pub returns : goal.returns
-returns c =
-    let l = c.loop-i in
-    let d = l.invariant in
-    let t = decoded_all _ _ _ _ _ d (left-none _ _ l.n l.i c.loop-i-test.false) in record { value = t.1; file_after = t.0; upper_bound = search rules }
+pub returns-clause-file_after : goal.returns-clause-file_after
+returns-clause-file_after c = (decoded_all _ _ _ _ _ c.loop-k.invariant (left_end _ _ c.loop-k.k (omega arith))).0

@@ -1,19 +1,12 @@
--- From each place passed the first place of the byte is the same.
-use mathlib.Core.Path.{refl, ◌∙◌}
-use borrow.Author.Rules.{rules}
+use mathlib.Core.Path.{◌∙◌}
 use Rattle.hexadecimal.proofs.Laws.{found, not_here, at-end}
 use Rattle.hexadecimal.proofs.find.Goals as goal
 
-pub loop-i-init : goal.loop-i-init
-loop-i-init c = (refl, search rules)
-
-pub returns-then-s-i : goal.returns-then-s-i
-returns-then-s-i c = let l = c.loop-i in record { value = found _ l.i _ c.loop-i-test.true c.if-s-i.true ∙ l.invariant.0; lower_bound = search rules }
+pub returns-then-s-i-clause-value : goal.returns-then-s-i-clause-value
+returns-then-s-i-clause-value c = let l = c.loop-i in found _ l.i _ c.loop-i-test.true c.if-s-i.true ∙ l.invariant
 
 pub loop-i-preserved : goal.loop-i-preserved
-loop-i-preserved c =
-    let l = c.loop-i in
-    (not_here _ l.i _ c.loop-i-test.true c.if-s-i.false ∙ l.invariant.0, search rules)
+loop-i-preserved c = let l = c.loop-i in not_here _ l.i _ c.loop-i-test.true c.if-s-i.false ∙ l.invariant
 
-pub returns : goal.returns
-returns c = let l = c.loop-i in record { value = at-end _ l.i _ c.loop-i-test.false ∙ l.invariant.0; lower_bound = search rules }
+pub returns-clause-value : goal.returns-clause-value
+returns-clause-value c = let l = c.loop-i in at-end _ l.i _ c.loop-i-test.false ∙ l.invariant

@@ -1,12 +1,7 @@
 -- From each place passed the first place of the byte is the same.
 use mathlib.Core.Path.{◌≡◌}
-use Prim.Native.Nat.{◌≤◌, ◌-◌, min}
-use lib.ListN.{length}
 use Rattle.hexadecimal.specs.Text.{place_of}
 use Rattle.hexadecimal.proofs.find.Given as goal
 
 abbrev pub invariant-loop-i : goal.invariant-loop-i
-invariant-loop-i l = (place_of l.s l.i l.b ≡ place_of l.s l.from l.b) × (min l.from (length l.s) ≤ l.i)
-
-abbrev pub decreases-loop-i : goal.decreases-loop-i
-decreases-loop-i l = length l.s - l.i
+invariant-loop-i l = place_of l.s l.i l.b ≡ place_of l.s l.fn.from l.b

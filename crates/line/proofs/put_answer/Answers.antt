@@ -1,33 +1,34 @@
 -- Each answer has its word, and its numbers after it.
-use mathlib.Core.Path.{sym}
 use mathlib.Core.List.{◌++◌}
-use native.Mathlib.Omega.{arith}
-use Rattle.answer.specs.Answer.{search_outcome}
+use Rattle.answer.specs.Answer.{told, search_outcome}
 use Rattle.line.specs.Line.{fields, best, none, stopped, refusal, dash, words_of}
 use Rattle.line.proofs.Puts.{put_then, put-run, put_last}
 use Rattle.line.proofs.put_answer.Goals as goal
 
-pub returns-in-Best : goal.returns-in-Best
-unfolding words_of search_outcome
-returns-in-Best c = let k = c.put_found in record { upper_bound = omega (arith, k.ensures.upper_bound); put = rw c.in-Best.is (put_then _ _ _ _ _ _ _ _ (put-run _ _ _ best c.put.ensures) k.ensures.put) }
+pub returns-in-Ok-Best-clause-put : goal.returns-in-Ok-Best-clause-put
+unfolding words_of told search_outcome
+returns-in-Ok-Best-clause-put c = rw (c.in-Ok-Best.is, rw c.in-Ok-Best.is at c.in-Ok-Best.field-0-is) (put_then _ _ _ _ _ _ _ _ (put-run _ _ _ best c.put.ensures) c.put_found.ensures.put)
 
-pub returns-in-None : goal.returns-in-None
+pub returns-in-Ok-None-clause-put : goal.returns-in-Ok-None-clause-put
+unfolding words_of told search_outcome fields
+returns-in-Ok-None-clause-put c =
+    rw (c.in-Ok-None.is, rw c.in-Ok-None.is at c.in-Ok-None.field-0-is)
+    (put_then _ _ _ _ _ _ _ _ (put-run _ _ _ none c.put-in-Ok-None.ensures) (put_last _ _ _ _ _ (rw c.from.ensures at c.put_number.ensures.put)))
+
+pub returns-in-Ok-Stopped-clause-put : goal.returns-in-Ok-Stopped-clause-put
+unfolding words_of told search_outcome
+returns-in-Ok-Stopped-clause-put c =
+    rw (c.in-Ok-Stopped.is, rw c.in-Ok-Stopped.is at c.in-Ok-Stopped.field-0-is) (put_then _ _ _ _ _ _ _ _ (put-run _ _ _ (stopped ++ dash) c.put-in-Ok-Stopped.ensures) c.put_halted.ensures.put)
+
+pub returns-in-Ok-StoppedWith-clause-put : goal.returns-in-Ok-StoppedWith-clause-put
+unfolding words_of told search_outcome
+returns-in-Ok-StoppedWith-clause-put c =
+    rw (c.in-Ok-StoppedWith.is, rw c.in-Ok-StoppedWith.is at c.in-Ok-StoppedWith.field-0-is)
+    (put_then _ _ _ _ _ _ _ _ (put-run _ _ _ stopped c.put-in-Ok-StoppedWith.ensures) c.put_found-in-Ok-StoppedWith.ensures.put)
+
+pub returns-in-Err-clause-put : goal.returns-in-Err-clause-put
 unfolding words_of search_outcome fields
-returns-in-None c = let k = c.put_number in record { upper_bound = omega (arith, k.ensures.upper_bound); put = rw c.in-None.is (put_then _ _ _ _ _ _ _ _ (put-run _ _ _ none c.put-in-None.ensures) (put_last _ _ _ _ _ k.ensures.put)) }
-
-pub returns-in-Stopped : goal.returns-in-Stopped
-unfolding words_of search_outcome
-returns-in-Stopped c = let k = c.put_halted in record { upper_bound = omega (arith, k.ensures.upper_bound); put = rw c.in-Stopped.is (put_then _ _ _ _ _ _ _ _ (put-run _ _ _ (stopped ++ dash) c.put-in-Stopped.ensures) k.ensures.put) }
-
-pub returns-in-StoppedWith : goal.returns-in-StoppedWith
-unfolding words_of search_outcome
-returns-in-StoppedWith c = let k = c.put_found-in-StoppedWith in record { upper_bound = omega (arith, k.ensures.upper_bound); put = rw c.in-StoppedWith.is (put_then _ _ _ _ _ _ _ _ (put-run _ _ _ stopped c.put-in-StoppedWith.ensures) k.ensures.put) }
-
-pub returns-in-Refused : goal.returns-in-Refused
-unfolding words_of search_outcome fields
-returns-in-Refused c =
-    let k = c.put_number-in-Refused in record {
-      upper_bound = omega (arith, k.ensures.upper_bound);
-      put = rw (c.in-Refused.is, sym c.number.ensures)
-          (put_then _ _ _ _ _ _ _ _ (put-run _ _ _ refusal c.put-in-Refused.ensures) (put_last _ _ _ _ _ k.ensures.put));
-    }
+returns-in-Err-clause-put c =
+    rw c.in-Err.is
+    (put_then _ _ _ _ _ _ _ _ (put-run _ _ _ refusal c.put-in-Err.ensures)
+    (put_last _ _ _ _ _ (rw (c.from-in-Err-2.ensures, c.from-in-Err.ensures) at c.put_number-in-Err.ensures.put)))

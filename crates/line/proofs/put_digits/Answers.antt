@@ -7,15 +7,17 @@ use Rattle.line.proofs.put_digits.Goals as goal
 
 pub put-requires : goal.put-requires
 put-requires c =
-    let few : c.decimal-k.result ≤ 20 = few_digits c.decimal-k.result c.args.n c.decimal-k.ensures.len (omega arith) in
-    omega (arith, few, c.decimal-k.ensures.in_bounds.1)
+    omega (arith, few_digits c.decimal-k.result c.args.n c.decimal-k.ensures.len (omega arith), c.decimal-k.ensures.in_bounds.1)
 
 pub overflow_add-result : goal.overflow_add-result
 overflow_add-result c =
-    let few : c.decimal-k.result ≤ 20 = few_digits c.decimal-k.result c.args.n c.decimal-k.ensures.len (omega arith) in
-    omega (arith, few)
+    omega (arith, few_digits c.decimal-k.result c.args.n c.decimal-k.ensures.len (omega arith))
 
-pub returns : goal.returns
-returns c =
+pub returns-clause-put : goal.returns-clause-put
+returns-clause-put c =
     let few : c.decimal-k.result ≤ 20 = few_digits c.decimal-k.result c.args.n c.decimal-k.ensures.len (omega arith) in
-    let a = c.args in record { upper_bound = omega (arith, few); put = put_digits a.out.now _ _ a.at a.n c.decimal-k.result few c.decimal-k.ensures.len c.decimal-k.ensures.digits c.put.ensures }
+    let a = c.args in
+    put_digits a.out.now _ _ a.at a.n c.decimal-k.result few c.decimal-k.ensures.len c.decimal-k.ensures.digits c.put.ensures
+
+pub returns-clause-upper_bound : goal.returns-clause-upper_bound
+returns-clause-upper_bound c = omega (arith, few_digits c.decimal-k.result c.args.n c.decimal-k.ensures.len (omega arith))

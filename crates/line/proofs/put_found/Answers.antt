@@ -1,5 +1,4 @@
 -- Four numbers one after the other.
-use native.Mathlib.Omega.{arith}
 use mir.Syntax.{w64}
 use mir.Val.{SFits}
 use Rattle.line.specs.Line.{fields}
@@ -7,17 +6,14 @@ use Rattle.line.proofs.Puts.{put_then, put_last, put_same}
 use borrow.Author.Rules.{rules}
 use Rattle.line.proofs.put_found.Goals as goal
 
-pub returns : goal.returns
+pub returns-clause-put : goal.returns-clause-put
 unfolding fields
-returns c =
-    let fourth = c.put_number in
-    let third = c.put_number-duties in
-    let second = c.put_signed-nodes in
-    let first = c.put_signed-floor in
-    let found = c.args.found in
-    let f : SFits w64 found.cost = search rules in
-    let g : SFits w64 found.bound = search rules in record {
-      upper_bound = omega (arith, first.ensures.upper_bound, second.ensures.upper_bound, third.ensures.upper_bound, fourth.ensures.upper_bound);
-      put = put_then _ _ _ _ _ _ _ _ (put_same _ f _ _ _ _ first.ensures.put) (put_then _ _ _ _ _ _ _ _ (put_same _ g _ _ _ _ second.ensures.put)
-          (put_then _ _ _ _ _ _ _ _ third.ensures.put (put_last _ _ _ _ _ fourth.ensures.put)));
-    }
+returns-clause-put c =
+    let first = c.put_signed-floor.ensures.put in
+    let second = c.put_signed-nodes.ensures.put in
+    let third = c.put_number-duties.ensures.put in
+    let f : SFits w64 c.args.found.cost = search rules in
+    let g : SFits w64 c.args.found.bound = search rules in
+    put_then _ _ _ _ _ _ _ _ (put_same _ f _ _ _ _ first)
+    (put_then _ _ _ _ _ _ _ _ (put_same _ g _ _ _ _ second)
+    (put_then _ _ _ _ _ _ _ _ (rw c.from.ensures at third) (put_last _ _ _ _ _ c.put_number.ensures.put)))

@@ -6,8 +6,8 @@ use Rattle.lowering.proofs.lower.Goals as goal
 pub lower_costs-requires : goal.lower_costs-requires
 lower_costs-requires c =
     let k = c.requires in
-    let r = c.row_part-row.ensures in
+    let r = c.row_part.ensures in
     (row-covered _ _ _ _ _ _ r k.covered, row-rising _ _ _ r, row_columns_lem _ k.has.kept.small _ _ r)
 
 pub returns : goal.returns
-returns c = lower-is _ _ _ _ _ _ c.row_part-row.ensures c.requires.wide _ c.lower_costs.ensures
+returns c = lower-is _ _ _ _ _ _ c.row_part.ensures c.requires.wide _ c.lower_costs.ensures

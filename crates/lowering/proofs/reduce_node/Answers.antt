@@ -1,20 +1,13 @@
--- Reducing from the present node gives what reducing from the first one gives.
 use native.Mathlib.Omega.{arith}
 use borrow.Author.Rules.{rules}
 use Rattle.lowering.proofs.Looped.{reducing_start, reducing-lower, reducing-fits, reducing-room, reducing_next, reducing-end}
 use Rattle.lowering.proofs.reduce_node.Goals as goal
 
-pub best_candidate-best-requires : goal.best_candidate-best-requires
-best_candidate-best-requires c = c.requires.kept
-
 pub loop-best-init : goal.loop-best-init
 loop-best-init c = reducing_start _ _ _ _ _ c.requires (search rules) (search rules) c.best_candidate-best.ensures
 
-pub overflow_cast-best : goal.overflow_cast-best
-overflow_cast-best c = omega (arith, (reducing-room _ _ _ _ _ _ _ c.loop-best.invariant c.loop-best-test.true).0)
-
 pub lower-requires : goal.lower-requires
-lower-requires c = reducing-lower _ _ _ _ _ _ _ c.loop-best.invariant c.loop-best-test.true
+lower-requires c = rw c.loop-best.invariant.marks (reducing-lower _ _ _ _ _ _ _ c.loop-best.invariant c.loop-best-test.true)
 
 pub overflow_add-node : goal.overflow_add-node
 overflow_add-node c = omega (arith, reducing-fits _ _ _ _ _ _ _ c.loop-best.invariant c.loop-best-test.true)
@@ -28,17 +21,11 @@ overflow_cast-used c = omega (arith, (reducing-room _ _ _ _ _ _ _ c.loop-best.in
 pub bounds-used-count : goal.bounds-used-count
 bounds-used-count c = (reducing-room _ _ _ _ _ _ _ c.loop-best.invariant c.loop-best-test.true).1
 
-pub overflow_add-count : goal.overflow_add-count
-overflow_add-count c = omega (arith, (reducing-room _ _ _ _ _ _ _ c.loop-best.invariant c.loop-best-test.true).1)
-
-pub best_candidate-best-requires-in-loop-best : goal.best_candidate-best-requires-in-loop-best
-best_candidate-best-requires-in-loop-best c = c.loop-best.invariant.some.kept
-
 pub loop-best-smaller : goal.loop-best-smaller
 loop-best-smaller c = omega (arith, (reducing-room _ _ _ _ _ _ _ c.loop-best.invariant c.loop-best-test.true).1)
 
 pub loop-best-preserved : goal.loop-best-preserved
-loop-best-preserved c = reducing_next _ _ _ _ _ _ _ c.loop-best.invariant c.loop-best-test.true _ c.lower.ensures _ _ c.best_candidate-best-in-loop-best.ensures
+loop-best-preserved c = reducing_next _ _ _ _ _ _ _ c.loop-best.invariant c.loop-best-test.true _ (rw (← c.loop-best.invariant.marks) c.lower.ensures) _ _ c.best_candidate-best-in-loop-best.ensures
 
 pub returns : goal.returns
 returns c = reducing-end _ _ _ _ _ _ _ c.loop-best.invariant c.loop-best-test.false

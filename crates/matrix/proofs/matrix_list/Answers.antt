@@ -10,9 +10,9 @@ pub put_bodies-requires : goal.put_bodies-requires
 put_bodies-requires c = list_room _ _ _ c.requires
 
 pub put_rows-requires : goal.put_rows-requires
-put_rows-requires c = row_room _ _ _ c.requires _ (rw c.no_marks-cover.ensures at c.put_bodies.ensures.cover_after)
+put_rows-requires c = row_room _ _ _ c.requires _ c.put_bodies.ensures.cover_after
 
 pub returns : goal.returns
 returns c =
     list_holds _ _ _ c.requires c.no_cells-matrix.result c.no_cells-matrix.ensures _ _ _
-    (rw c.no_marks-cover.ensures at c.put_bodies.ensures.cover_after) c.put_bodies.ensures.matrix_after c.put_rows.ensures
+    c.put_bodies.ensures.cover_after c.put_bodies.ensures.matrix_after c.put_rows.ensures

@@ -1,16 +1,8 @@
--- The bodies that are left to put and to mark give what all of them give.
-use native.Mathlib.Omega.{arith}
 use Rattle.matrix.proofs.Putting.{putting_start, putting_part, putting_next, putting_end}
 use Rattle.matrix.proofs.put_bodies.Goals as goal
 
 pub loop-j-init : goal.loop-j-init
 loop-j-init c = putting_start _ _ _ _ c.requires
-
-pub overflow_cast-end : goal.overflow_cast-end
-overflow_cast-end c = omega (arith, (putting_part _ _ _ _ _ _ _ _ c.loop-j.invariant c.loop-j-test.true).small)
-
-pub overflow_add-end : goal.overflow_add-end
-overflow_add-end c = omega (arith, (putting_part _ _ _ _ _ _ _ _ c.loop-j.invariant c.loop-j-test.true).small)
 
 pub slice_bounds-body-end : goal.slice_bounds-body-end
 slice_bounds-body-end c = (putting_part _ _ _ _ _ _ _ _ c.loop-j.invariant c.loop-j-test.true).inside
@@ -28,7 +20,5 @@ loop-j-preserved c = putting_next _ _ _ _ _ _ _ _ c.loop-j.invariant c.loop-j-te
 
 pub returns : goal.returns
 returns c =
-    record {
-      matrix_after = (putting_end _ _ _ _ _ _ _ _ c.loop-j.invariant c.loop-j-test.false).0;
-      cover_after = (putting_end _ _ _ _ _ _ _ _ c.loop-j.invariant c.loop-j-test.false).1;
-    }
+    let e = putting_end _ _ _ _ _ _ _ _ c.loop-j.invariant c.loop-j-test.false in
+    record { matrix_after = e.0; cover_after = e.1 }

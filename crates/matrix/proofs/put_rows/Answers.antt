@@ -1,9 +1,5 @@
--- The rows that are left to put give what all of them give.
-use Rattle.matrix.proofs.Putting.{rows_start, rows-room, rows_next, rows_end}
+use Rattle.matrix.proofs.Putting.{rows-room, rows_next, rows_end}
 use Rattle.matrix.proofs.put_rows.Goals as goal
-
-pub loop-i-init : goal.loop-i-init
-loop-i-init c = rows_start _ _ _ _ _ c.requires
 
 pub put_row-end-requires : goal.put_row-end-requires
 put_row-end-requires c = rows-room _ _ _ _ _ _ _ _ c.loop-i.invariant c.loop-i-test.true

@@ -1,49 +1,34 @@
 -- No pair before the place at hand asks anything, so some pair does if one from there on does.
 use native.Mathlib.Omega.{arith}
-use mathlib.Core.Path.{sym, ◌∙◌}
-use Rattle.pairs.proofs.Passing.{InRange, in_range, looking_start, looking_found, looking_next, looking_end}
+use mathlib.Core.Path.{ap}
+use Rattle.pairs.specs.Asks.{asks}
+use Rattle.pairs.proofs.Passing.{asks-some, both_in, both_low, looking_start, looking_found, looking_next, looking_end}
 use Rattle.pairs.proofs.some_asks.Goals as goal
+use Rattle.pairs.proofs.some_asks.Goals.{in-Nothing, in_default}
 
-pub loop-k-init : goal.loop-k-init
-loop-k-init c = looking_start _ _
-
-pub overflow_add-k : goal.overflow_add-k
-overflow_add-k c = omega (arith, c.loop-k.invariant.low)
-
-pub overflow_cast-first : goal.overflow_cast-first
-overflow_cast-first c =
-    let range : InRange c.args.pairs.now c.loop-k.k = in_range c.args.pairs.now c.loop-k.k c.requires c.loop-k-test.true in
-    omega (arith, range.0.1)
+pub loop-first-init : goal.loop-first-init
+loop-first-init c = looking_start _ _ _ c.as_chunks.ensures.front
 
 pub overflow_sub-first : goal.overflow_sub-first
-overflow_sub-first c =
-    let range : InRange c.args.pairs.now c.loop-k.k = in_range c.args.pairs.now c.loop-k.k c.requires c.loop-k-test.true in
-    range.0.0
-
-pub overflow_cast-second : goal.overflow_cast-second
-overflow_cast-second c =
-    let range : InRange c.args.pairs.now c.loop-k.k = in_range c.args.pairs.now c.loop-k.k c.requires c.loop-k-test.true in
-    omega (arith, range.1.1)
+overflow_sub-first c = let b = both_in _ _ _ c.as_chunks.ensures.front c.requires _ c.loop-first-test.true in omega (arith, b.0.0, b.1.0)
 
 pub overflow_sub-second : goal.overflow_sub-second
-overflow_sub-second c =
-    let range : InRange c.args.pairs.now c.loop-k.k = in_range c.args.pairs.now c.loop-k.k c.requires c.loop-k-test.true in
-    range.1.0
+overflow_sub-second c = let b = both_in _ _ _ c.as_chunks.ensures.front c.requires _ c.loop-first-test.true in omega (arith, b.0.0, b.1.0)
 
 pub pair_asks-asked-requires : goal.pair_asks-asked-requires
-pair_asks-asked-requires c =
-    let range : InRange c.args.pairs.now c.loop-k.k = in_range c.args.pairs.now c.loop-k.k c.requires c.loop-k-test.true in
-    let r = range in
-    (omega arith, omega arith)
+pair_asks-asked-requires c = let b = both_low _ _ _ c.as_chunks.ensures.front c.requires (omega arith) _ c.loop-first-test.true in (omega (arith, b.0, b.1), omega (arith, b.0, b.1))
 
-pub returns-then-is_asked : goal.returns-then-is_asked
-returns-then-is_asked c = looking_found _ _ _ c.loop-k.invariant c.loop-k-test.true _ c.pair_asks-asked.ensures (sym c.is_asked.ensures ∙ c.if-is_asked.true)
+pub returns-then-not-matches : goal.returns-then-not-matches
+returns-then-not-matches c = elim c.match-matches.branch [
+  | in-Nothing w ↦ absurd (cc)
+  | in_default w ↦ looking_found _ _ _ _ c.loop-first.invariant c.loop-first-test.true _ c.pair_asks-asked.ensures (asks-some _ w.in_default.not-Nothing)
+]
 
-pub loop-k-smaller : goal.loop-k-smaller
-loop-k-smaller c = omega (arith, c.loop-k-test.true)
-
-pub loop-k-preserved : goal.loop-k-preserved
-loop-k-preserved c = looking_next _ _ _ c.loop-k.invariant c.loop-k-test.true _ c.pair_asks-asked.ensures (sym c.is_asked.ensures ∙ c.if-is_asked.false)
+pub loop-first-preserved : goal.loop-first-preserved
+loop-first-preserved c = elim c.match-matches.branch [
+  | in-Nothing w ↦ looking_next _ _ _ _ c.loop-first.invariant c.loop-first-test.true _ c.pair_asks-asked.ensures (ap asks w.in-Nothing.is)
+  | in_default w ↦ absurd (cc)
+]
 
 pub returns : goal.returns
-returns c = looking_end _ _ _ c.loop-k.invariant c.loop-k-test.false
+returns c = looking_end _ _ _ _ c.loop-first.invariant c.loop-first-test.false

@@ -1,9 +1,8 @@
-use Rattle.signed.proofs.Signs.{taken}
+use Rattle.std.proofs.Common.{refl, arith, to_z-of_z}
 use Rattle.raising.proofs.Bits.{raised-bits}
 use Rattle.raising.proofs.raised.Goals as goal
 
-pub shift-requires : goal.shift-requires
-shift-requires c = c.requires.most
-
 pub returns : goal.returns
-returns c = raised-bits _ _ _ _ _ _ c.requires (taken _ _ c.ranges.cost c.to_bits.ensures) c.shift.ensures c.wrapping_add_u32.ensures.value
+returns c =
+    let sum = rw (to_z-of_z c.ranges.cost) at c.wrapping_add_signed.ensures in
+    raised-bits _ _ _ _ _ _ c.requires refl c.shift.ensures (omega (arith, sum))

@@ -1,9 +1,6 @@
 -- The absent columns are left, then the agreed ones are taken.
-use Rattle.requests.proofs.Loops.{begins-absent, begins_takeable, begins-is}
+use Rattle.requests.proofs.Loops.{begins_takeable, begins-is}
 use Rattle.requests.proofs.begin.Goals as goal
-
-pub leave_all-fewer-requires : goal.leave_all-fewer-requires
-leave_all-fewer-requires c = begins-absent _ _ _ _ _ c.requires
 
 pub take_all-requires : goal.take_all-requires
 take_all-requires c = begins_takeable _ _ _ _ _ c.requires _ c.leave_all-fewer.ensures

@@ -2,24 +2,25 @@
 use mathlib.Core.Path.{sym, ◌∙◌}
 use Rattle.refusals.specs.Refusals.{fault_of}
 use Rattle.refusals.proofs.Laws.{stops_at, goes_on, passes, fails}
+use Rattle.dutyfile.proofs.Rising.{as_they_are}
 use Rattle.search.specs.Requests.{request_fault}
 use Rattle.search.proofs.check_requests.Goals as goal
 
-pub returns-then-not-columns_rise : goal.returns-then-not-columns_rise
+pub returns-then-not-rises : goal.returns-then-not-rises
 unfolding fault_of request_fault
-returns-then-not-columns_rise c = sym (stops_at 14 _ (fails 14 (sym c.columns_rise.ensures ∙ c.if-not-columns_rise.true)))
+returns-then-not-rises c = sym (stops_at 14 _ (fails 14 (sym (as_they_are _ _ _ c.rises.ensures) ∙ c.if-not-rises.true)))
 
-pub returns-then-not-columns_rise-2 : goal.returns-then-not-columns_rise-2
+pub returns-then-not-rises-2 : goal.returns-then-not-rises-2
 unfolding fault_of request_fault
-returns-then-not-columns_rise-2 c =
+returns-then-not-rises-2 c =
     sym
-    (goes_on _ (passes 14 (sym c.columns_rise.ensures ∙ c.if-not-columns_rise.false))
-    ∙ stops_at 15 _ (fails 15 (sym c.columns_rise-2.ensures ∙ c.if-not-columns_rise-2.true)))
+    (goes_on _ (passes 14 (sym (as_they_are _ _ _ c.rises.ensures) ∙ c.if-not-rises.false))
+    ∙ stops_at 15 _ (fails 15 (sym (as_they_are _ _ _ c.rises-2.ensures) ∙ c.if-not-rises-2.true)))
 
 pub returns : goal.returns
 unfolding request_fault
 returns c =
     c.check_pairs.ensures
     ∙ sym
-    (goes_on _ (passes 14 (sym c.columns_rise.ensures ∙ c.if-not-columns_rise.false))
-    ∙ goes_on _ (passes 15 (sym c.columns_rise-2.ensures ∙ c.if-not-columns_rise-2.false)))
+    (goes_on _ (passes 14 (sym (as_they_are _ _ _ c.rises.ensures) ∙ c.if-not-rises.false))
+    ∙ goes_on _ (passes 15 (sym (as_they_are _ _ _ c.rises-2.ensures) ∙ c.if-not-rises-2.false)))

@@ -16,5 +16,5 @@ pub returns : goal.returns
 returns c =
     λ w.
     let t = c.args.t in
-    rw c.keep.ensures (ap {B = Tally} (λ (k : Incumbent). record { nodes = t.nodes; left = t.left; stopped = t.stopped; kept = k })
-    (yields _ _ _ _ _ (sym c.is_reached.ensures ∙ c.if-is_reached.false)))
+    ap {B = Tally} (λ (k : Incumbent). record { nodes = t.nodes; left = t.left; stopped = t.stopped; kept = k })
+    (yields _ _ _ _ _ (sym c.is_reached.ensures ∙ c.if-is_reached.false))

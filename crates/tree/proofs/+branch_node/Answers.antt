@@ -1,12 +1,10 @@
 use mathlib.Core.Path.{◌≡◌, ◌∙◌}
-use Prim.Native.Nat.{ℕ, ◌+◌, ◌*◌, ◌<◌}
 use native.Mathlib.Omega.{arith}
 use borrow.Author.Rules.{rules}
 use borrow.Author.Tests.{not-true, not-false}
 use Rattle.node.specs.Node.{take}
 use Rattle.node.specs.Stored.{matrix_in}
 use Rattle.rules.specs.Goals.{search_for}
-use Rattle.goals.specs.Taking.{Takes}
 use Rattle.goals.proofs.Taking.{takes-room, takes-column, takes_low, takes-is}
 use Rattle.tree.proofs.Walking.{entered-sum, halted-sum, offered-sum, node-halts, node-ends, node-offers, node-reached, node-branches}
 use Rattle.tree.proofs.Walking.{comes, can_branch, column-low, can_take, first-falls, first_walks, branch-stops}

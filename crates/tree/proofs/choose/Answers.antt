@@ -1,11 +1,7 @@
 -- The row and the column found are those that the rules pick.
 use native.Mathlib.Omega.{arith}
 use Rattle.tree.proofs.Choosing.{choice_row, choice_room, choice_made, choice_low}
-use borrow.Author.Rules.{rules}
 use Rattle.tree.proofs.choose.Goals as goal
-
-pub branch_row-best-requires : goal.branch_row-best-requires
-branch_row-best-requires c = c.requires.kept
 
 pub branch_column-found-requires : goal.branch_column-found-requires
 branch_column-found-requires c = choice_row _ _ c.requires _ c.branch_row-best.ensures

@@ -1,6 +1,5 @@
 -- By the node's costs for the sum, and by the table of present costs for the longest duty.
 use mathlib.Core.Path.{◌∙◌}
-use borrow.Author.Rules.{rules}
 use Rattle.tree.proofs.Tables.{sum_choosable, net_choosable, net_choice}
 use Rattle.rules.specs.Goals.{search_for}
 use Rattle.tree.proofs.choose_for.Goals as goal

@@ -1,10 +1,8 @@
--- The columns that are left to append give what all of them give.
-use Prim.Native.Nat.{◌-◌}
-use Rattle.trial.proofs.Appending.{Appending}
+-- The rows that are left to append give what all of them give.
+use Prim.Native.Nat.{suc}
+use Rattle.node.specs.Lists.{from}
+use Rattle.matrix.proofs.Putting.{Copying}
 use Rattle.trial.proofs.append.Given as goal
 
 abbrev pub invariant-loop-i : goal.invariant-loop-i
-invariant-loop-i l = Appending l.k l.extra l.columns l.entries l.initial.costs l.initial.lengths l.initial.numbers l.costs l.lengths l.numbers l.i
-
-abbrev pub decreases-loop-i : goal.decreases-loop-i
-decreases-loop-i l = l.extra - l.i
+invariant-loop-i l = Copying (from l.extra (suc l.k)) l.initial.numbers l.found.entries l.numbers l.i

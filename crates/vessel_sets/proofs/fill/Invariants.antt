@@ -4,6 +4,3 @@ use Rattle.vessel_sets.proofs.fill.Given as goal
 
 abbrev pub invariant-loop-s : goal.invariant-loop-s
 invariant-loop-s l = Filling l.table l.crews l.vessels l.least l.s
-
-abbrev pub decreases-loop-s : goal.decreases-loop-s
-decreases-loop-s l = l.s

@@ -7,7 +7,4 @@ use Rattle.vessel_sets.proofs.Loops.{At}
 use Rattle.vessel_sets.proofs.pick.Given as goal
 
 abbrev pub invariant-loop-j : goal.invariant-loop-j
-invariant-loop-j l = At l.vessels l.s l.w l.rest l.j × (pick_from (offers_in l.row l.least l.s) l.best (l.vessels - l.j) l.j ≡ pick (offers_in l.row l.least l.s) l.vessels)
-
-abbrev pub decreases-loop-j : goal.decreases-loop-j
-decreases-loop-j l = l.vessels - l.j
+invariant-loop-j l = At l.vessels l.s l.w l.rest l.j × (pick_from (offers_in l.fn.row l.least l.s) l.best (l.vessels - l.j) l.j ≡ pick (offers_in l.fn.row l.least l.s) l.vessels)

@@ -10,9 +10,6 @@ use Rattle.visit.proofs.settle.Goals as goal
 pub returns-then-not-forced : goal.returns-then-not-forced
 returns-then-not-forced c = settle-dead _ _ _ _ c.force_with-forced.ensures (not-true _ c.if-not-forced.true)
 
-pub is_full-requires : goal.is_full-requires
-is_full-requires c = c.requires.some.kept
-
 pub returns-then-is_full : goal.returns-then-is_full
 returns-then-is_full c =
     settle-full _ _ _ _ c.force_with-forced.ensures (not-false _ c.if-not-forced.false) _ c.is_full.ensures
@@ -20,9 +17,6 @@ returns-then-is_full c =
 
 pub reduce_node-done-requires : goal.reduce_node-done-requires
 reduce_node-done-requires c = sum-workable _ _ (rw c.in-Sum.is at (forced_workable _ _ _ _ c.requires _ c.force_with-forced.ensures))
-
-pub raise-requires : goal.raise-requires
-raise-requires c = c.requires.some.kept
 
 pub returns-in-Sum : goal.returns-in-Sum
 unfolding search_for

@@ -1,28 +1,19 @@
--- The bodies that are left come to what all of them come to.
 use native.Mathlib.Omega.{arith}
 use Rattle.refusals.specs.Refusals.{fault_of}
-use Rattle.writer.proofs.Bodies.{testing_start, testing_whole, testing_stop, testing_next, testing_end}
+use Rattle.dutyfile.proofs.Rising.{as_they_are}
+use Rattle.writer.proofs.Bodies.{testing_whole, testing_stop, testing_next, testing_end}
 use Rattle.writer.proofs.check_bodies.Goals as goal
 
-pub loop-j-init : goal.loop-j-init
-loop-j-init c = testing_start _ _ _ c.requires
+pub slice_bounds-rises-end : goal.slice_bounds-rises-end
+slice_bounds-rises-end c = omega (arith, testing_whole _ _ _ _ _ c.loop-size.invariant c.loop-size-test.true)
 
-pub overflow_cast-end : goal.overflow_cast-end
-overflow_cast-end c = omega (arith, c.type_inv.lengths c.loop-j.j)
-
-pub overflow_add-end : goal.overflow_add-end
-overflow_add-end c = omega (arith, testing_whole _ _ _ _ _ c.loop-j.invariant c.loop-j-test.true)
-
-pub slice_bounds-is_rising-end : goal.slice_bounds-is_rising-end
-slice_bounds-is_rising-end c = omega (arith, testing_whole _ _ _ _ _ c.loop-j.invariant c.loop-j-test.true)
-
-pub returns-then-not-is_rising : goal.returns-then-not-is_rising
+pub returns-then-not-rises : goal.returns-then-not-rises
 unfolding fault_of
-returns-then-not-is_rising c = testing_stop _ _ _ _ _ c.loop-j.invariant c.loop-j-test.true _ c.is_rising.ensures (c.if-not-is_rising.true)
+returns-then-not-rises c = testing_stop _ _ _ _ _ c.loop-size.invariant c.loop-size-test.true _ (as_they_are _ _ _ (rw c.from.ensures at c.rises.ensures)) c.if-not-rises.true
 
-pub loop-j-preserved : goal.loop-j-preserved
-loop-j-preserved c = testing_next _ _ _ _ _ c.loop-j.invariant c.loop-j-test.true _ c.is_rising.ensures (c.if-not-is_rising.false)
+pub loop-size-preserved : goal.loop-size-preserved
+loop-size-preserved c = rw c.from.ensures (testing_next _ _ _ _ _ c.loop-size.invariant c.loop-size-test.true _ (as_they_are _ _ _ (rw c.from.ensures at c.rises.ensures)) c.if-not-rises.false)
 
 pub returns : goal.returns
 unfolding fault_of
-returns c = testing_end _ _ _ _ _ c.loop-j.invariant c.loop-j-test.false
+returns c = testing_end _ _ _ _ _ c.loop-size.invariant c.loop-size-test.false

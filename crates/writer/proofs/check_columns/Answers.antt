@@ -1,51 +1,39 @@
--- The columns that are left, with the rows so far, come to what all of them come to.
-use mathlib.Core.Path.{◌≡◌}
-use Prim.Native.Nat.{◌+◌}
-use native.Mathlib.Omega.{arith}
-use lib.IntN.{pos}
-use lib.ListN.{get_or}
-use Rattle.refusals.specs.Refusals.{fault_of}
-use Rattle.refusals.proofs.Laws.{failed, passed}
-use Rattle.signed.proofs.Signs.{given}
+use mathlib.Core.Path.{◌≡◌, refl, sym}
+use Rattle.std.specs.Prelude.{ℕ, ℤ, Result}
+use Rattle.std.proofs.Common.{rules, w32, SFits, to_z, of_z, to_z-of_z}
+use Rattle.std.proofs.lemmas.Iterator.{empty_from_Zip}
+use Rattle.refusals.specs.Refusals.{outcome, fault_of}
+use Rattle.refusals.specs.declared.Refusal.{Refusal}
+use Rattle.refusals.proofs.Laws.{failed, passed, handed_on}
+use Rattle.dutyfile.specs.declared.Edition.{Edition}
 use Rattle.dutyfile.specs.Faults.{column_fault}
-use Rattle.dutyfile.specs.Answer.{contents_outcome}
-use Rattle.writer.proofs.Columns.{Walking, walking_start, walking_stop, walking_next, walking_end}
+use Rattle.writer.proofs.Columns.{walking_start, walking_stop, walking_next, walking_end}
 use Rattle.writer.proofs.check_columns.Goals as goal
 
-pub loop-j-init : goal.loop-j-init
-loop-j-init c = walking_start _ _ _ _ c.requires
+-- the column was tested with the cost that its bits stand for
+told : (r : Result (Unit {0}) Refusal) (ed : Edition) (m t : ℕ) (z : ℤ) (l : ℕ) → SFits w32 z →
+    fault_of r ≡ column_fault ed m t (to_z w32 (of_z w32 z)) l → fault_of r ≡ column_fault ed m t z l
+told r ed m t z l f e = rw (to_z-of_z f) at e
 
-pub returns-in-Failed : goal.returns-in-Failed
-unfolding contents_outcome
-returns-in-Failed c =
-    let column : let a = c.args in
-    let l = c.loop-j in
-    fault_of c.check_column-tested.result ≡ column_fault a.edition a.rows l.total (get_or a.costs.now l.j (pos 0)) (get_or a.lengths.now l.j 0) = rw (given _ c.check_column-arg-1.given) at c.check_column-tested.ensures in
-    walking_stop _ _ _ _ _ _ c.loop-j.invariant c.loop-j-test.true _ (failed column _ c.in-Failed.is)
+pub loop-cost-init : goal.loop-cost-init
+loop-cost-init c = walking_start _ _ _ _ _ _ c.requires (search rules) (search rules)
 
-pub overflow_cast-total : goal.overflow_cast-total
-overflow_cast-total c = omega (arith, c.type_inv.lengths c.loop-j.j)
+pub returns-in_err-check_column : goal.returns-in_err-check_column
+unfolding outcome
+returns-in_err-check_column c =
+    let column = told _ _ _ _ c.in-Some.field-0-0.now _ (search rules) c.check_column.ensures in
+    let i = c.in-Some.ensures.steps in
+    rw (handed_on _ _ c.from_residual.ensures.1) (walking_stop _ _ c.loop-cost.invariant i.0 i.1 _ (failed column _ c.in_err-check_column.was))
 
-pub overflow_add-total : goal.overflow_add-total
-overflow_add-total c =
-    let next : let a = c.args in
-    let l = c.loop-j in
-    Walking a.edition a.rows a.costs.now a.lengths.now (l.total + get_or a.lengths.now l.j 0) (l.j + 1) = let column : let a = c.args in
-    let l = c.loop-j in
-    fault_of c.check_column-tested.result ≡ column_fault a.edition a.rows l.total (get_or a.costs.now l.j (pos 0)) (get_or a.lengths.now l.j 0) = rw (given _ c.check_column-arg-1.given) at c.check_column-tested.ensures in
-    walking_next _ _ _ _ _ _ c.loop-j.invariant c.loop-j-test.true (passed column c.in_default.is) in
-    omega (arith, next.small)
-
-pub loop-j-preserved : goal.loop-j-preserved
-loop-j-preserved c =
-    let next : let a = c.args in
-    let l = c.loop-j in
-    Walking a.edition a.rows a.costs.now a.lengths.now (l.total + get_or a.lengths.now l.j 0) (l.j + 1) = let column : let a = c.args in
-    let l = c.loop-j in
-    fault_of c.check_column-tested.result ≡ column_fault a.edition a.rows l.total (get_or a.costs.now l.j (pos 0)) (get_or a.lengths.now l.j 0) = rw (given _ c.check_column-arg-1.given) at c.check_column-tested.ensures in
-    walking_next _ _ _ _ _ _ c.loop-j.invariant c.loop-j-test.true (passed column c.in_default.is) in
-    next
+pub loop-cost-preserved : goal.loop-cost-preserved
+loop-cost-preserved c =
+    let column = told _ _ _ _ c.in-Some.field-0-0.now _ (search rules) c.check_column.ensures in
+    let i = c.in-Some.ensures.steps in
+    rw c.from-total.ensures (walking_next _ _ c.loop-cost.invariant i.0 i.1 (passed column c.in_ok-check_column.was))
 
 pub returns : goal.returns
-unfolding contents_outcome
-returns c = walking_end _ _ _ _ _ _ c.loop-j.invariant c.loop-j-test.false
+unfolding outcome
+returns c =
+    let i = c.in-None.ensures.steps in
+    let none = empty_from_Zip _ c.next.new.self _ refl i (sym c.loop-cost.invariant.same) in
+    walking_end _ _ c.loop-cost.invariant none.0 none.1
