@@ -47,9 +47,10 @@ pub fn file_space() -> [u8; 6153]
 pub fn begins(file: &[u8], edition: Edition) -> bool
     ensures { result ≡ same (take 4 file.now) (magic edition) }
 {
+    let mark = &file[..file.len().min(4)];
     match edition {
-        Edition::Spp1 => file.starts_with(b"SPP1"),
-        Edition::Spp2 => file.starts_with(b"SPP2"),
+        Edition::Spp1 => endian::equal(mark, b"SPP1"),
+        Edition::Spp2 => endian::equal(mark, b"SPP2"),
     }
 }
 

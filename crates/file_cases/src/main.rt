@@ -20,7 +20,7 @@ fn say_number(n: u64) {
 // A space and a cost with its sign.
 fn say_cost(cost: i32) {
     say(if cost < 0 { b" -" } else { b" " });
-    io::print_decimal(1, i64::from(cost).unsigned_abs());
+    io::print_decimal(1, signed::magnitude(signed::wide(cost)));
 }
 
 fn say_refusal(why: Refusal) {
@@ -40,7 +40,7 @@ fn write_back(
     let mut out = [0u8; 6152];
     match roundtrip::write_by(edition, rows, costs, lengths, numbers, &mut out) {
         Ok(size) => {
-            if &out[0..size] == file {
+            if endian::equal(&out[0..size], file) {
                 say(b", written back the same")
             } else {
                 say(b", written back differently")

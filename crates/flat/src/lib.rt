@@ -116,7 +116,7 @@ pub fn flat_checked(answer: Result<Verdict, Refusal>) -> SppChecked
         Ok(verdict) => match verdict {
             Verdict::Plan(cost) => SppChecked {
                 is_plan: 1,
-                price: i64::from(cost),
+                price: signed::wide(cost),
                 ..SppChecked::default()
             },
             Verdict::NotOnce(row, times) => SppChecked {

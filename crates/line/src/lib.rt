@@ -38,7 +38,7 @@ fn put_signed(out: &mut [u8], at: usize, z: i64) -> usize
     ensures upper_bound { result ≤ at + 22 }
     ensures put { Put out.old out.new at result (field z) }
 {
-    let n = z.unsigned_abs();
+    let n = signed::magnitude(z);
     if z < 0 {
         endian::put(out, at, b" -");
         return put_digits(out, at + 2, n);

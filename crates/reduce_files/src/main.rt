@@ -12,7 +12,7 @@ fn say(text: &[u8]) {
 // A space and a number with its sign.
 fn say_number(n: i64) {
     say(if n < 0 { b" -" } else { b" " });
-    io::print_decimal(1, n.unsigned_abs());
+    io::print_decimal(1, signed::magnitude(n));
 }
 
 // Reduces a file into lists that are lent to it.
@@ -27,7 +27,7 @@ fn show_reduced(file: &[u8], reduced: &mut [i32], order: &mut [u8]) {
             }
             say(b"; costs");
             for cost in reduced.iter() {
-                say_number(i64::from(*cost));
+                say_number(signed::wide(*cost));
             }
         }
         Err(why) => {

@@ -104,11 +104,11 @@ module _ (g : Goal) (l js absent : List ℕ) (s₀ s : Node) (k : ℕ) (w : Taki
     abbrev j : ℕ
     j = get_or js k 0 - 1
 
-    module _ (r : Bool) (told : r ≡ list_any (λ y. eqb y (get_or js k 0)) absent) where
+    module _ (r : Bool) (told : r ≡ member (get_or js k 0) absent) where
       struck_is : (b : Bool) → r ≡ b → due js absent k ≡
           let others : List ℕ = struck (drop (k + 1) js) absent in
           columns_of (cond (not b) (get_or js k 0 ∷ others) others)
-      struck_is b e = rw (← e, told, holds_is (get_or js k 0) absent) (due_step js absent k within)
+      struck_is b e = rw (← e, told) (due_step js absent k within)
 
       -- an absent column is passed over
       pub taking_struck : r ≡ true → Taking g l js absent s₀ s (k + 1)

@@ -3,6 +3,7 @@
 #![tactic(auto)]
 
 ghost use Rattle.std.specs.Prelude.{◌≡◌};
+ghost use Rattle.node.specs.Lists.{member};
 ghost use Rattle.node.specs.Matrix.{Matrix};
 ghost use Rattle.node.specs.Stored.{matrix_in};
 ghost use Rattle.rules.specs.Agreed.{without, with_all, agreed_start, struck};
@@ -29,6 +30,13 @@ fn leave_all(mut s: Node, numbers: &[u16]) -> Node
     s
 }
 
+// Whether a list holds a number.
+fn holds(numbers: &[u16], number: u16) -> bool
+    ensures { result ≡ member number numbers.now }
+{
+    numbers.iter().any(|&other| other == number)
+}
+
 // The agreed columns that are not absent are taken in list sequence, each by the step of forcing; one that is not free at its turn makes
 // the node dead.
 fn take_all(goal: Goal, mut s: Node, agreed: &[u16], absent: &[u16], matrix: &[u16]) -> Forced
@@ -36,7 +44,7 @@ fn take_all(goal: Goal, mut s: Node, agreed: &[u16], absent: &[u16], matrix: &[u
     ensures { (let p : Matrix = matrix_in matrix.now in result ≡ with_all (search_for goal p).join p (columns_of (struck agreed.now absent.now)) s) }
 {
     for &number in agreed {
-        if !absent.contains(&number) {
+        if !holds(absent, number) {
             let j = number as usize - 1;
             if s.column[j] != 1 {
                 return Forced {

@@ -23,7 +23,7 @@ pub fn to_bits(z: i32) -> u32
 pub fn wrapping_add(a: i32, b: i32) -> i32
     ensures { result ≡ sum32 a b }
 {
-    a.wrapping_add(b)
+    from_bits(to_bits(a).wrapping_add(to_bits(b)))
 }
 
 // The difference at 32 bits, wrapping.
@@ -31,7 +31,7 @@ pub fn wrapping_add(a: i32, b: i32) -> i32
 pub fn wrapping_sub(a: i32, b: i32) -> i32
     ensures { result ≡ difference32 a b }
 {
-    a.wrapping_sub(b)
+    from_bits(to_bits(a).wrapping_sub(to_bits(b)))
 }
 
 // The same number, in 64 bits.

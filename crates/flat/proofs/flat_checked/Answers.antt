@@ -22,8 +22,8 @@ unfolding checked_of outcome
 returns-in-Plan c =
     let d = c.default-in-Plan.ensures in
     let f : SFits w32 c.in-Plan.cost = search rules in
-    let g : SFits w64 c.from-in-Plan.result = search rules in
-    rw (c.in-Ok.is, c.in-Plan.is, to_z-of_z g, c.from-in-Plan.ensures, to_z-of_z f, d.0, d.1.1.0, d.1.1.1.0)
+    let g : SFits w64 c.wide.result = search rules in
+    rw (c.in-Ok.is, c.in-Plan.is, to_z-of_z g, c.wide.ensures, to_z-of_z f, d.0, d.1.1.0, d.1.1.1.0)
 
 pub returns-in-NotOnce : goal.returns-in-NotOnce
 unfolding checked_of outcome
