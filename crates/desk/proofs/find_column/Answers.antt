@@ -26,11 +26,14 @@ returns-then-number-lt1 c =
 pub entry_at-requires : goal.entry_at-requires
 unfolding outcome
 entry_at-requires c =
-    let h = (file-fine _ (shape_passes _ _ (rw c.in-Ok.is at c.examine.ensures))).walked.header in
-    omega (arith, shape_columns _ _ (rw c.in-Ok.is at c.examine.ensures), h.counts.columns.most, h.contents)
+    let ok = shape_passes _ _ (rw c.in-Ok.is at c.examine.ensures) in
+    let n = shape_columns _ _ (rw c.in-Ok.is at c.examine.ensures) in
+    let h = (file-fine _ ok).walked.header in
+    omega (arith, n, h.counts.columns.most, h.contents)
 
 pub returns : goal.returns
 unfolding outcome
 returns c =
-    ap accepted c.entry_at.ensures
-    ∙ unless-fine _ (fault-none _ _ (shape_passes _ _ (rw c.in-Ok.is at c.examine.ensures)) (omega arith) (omega (arith, shape_columns _ _ (rw c.in-Ok.is at c.examine.ensures))))
+    let ok = shape_passes _ _ (rw c.in-Ok.is at c.examine.ensures) in
+    let n = shape_columns _ _ (rw c.in-Ok.is at c.examine.ensures) in
+    ap accepted c.entry_at.ensures ∙ unless-fine _ (fault-none _ _ ok (omega arith) (omega (arith, n)))
