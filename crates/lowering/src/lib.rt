@@ -25,8 +25,8 @@ fn lower_costs(cost: &mut [u32; 256], column: &[u8; 256], row: &[u16], amount: u
     requires { Covered column.now cost.old amount row.now × Rising row.now × Columns row.now }
     ensures { cost.new ≡ lower_at column.now cost.old amount row.now cost.old }
 {
-    for &j in row {
-        let j = usize::from(j);
+    for k in 0..row.len() {
+        let j = usize::from(row[k]);
         if column[j] == 1 {
             cost[j] -= amount;
         }

@@ -40,8 +40,8 @@ pub fn raise_all(edition: Edition, costs: &[i32], lengths: &[u16]) -> [u32; 256]
     ensures { result ≡ front (raised_all edition costs.now lengths.now) (replicate 256 0) }
 {
     let mut table = no_costs();
-    for (j, &cost) in costs.iter().enumerate() {
-        table[j] = raised(edition, cost, lengths[j] as usize);
+    for j in 0..costs.len() {
+        table[j] = raised(edition, costs[j], lengths[j] as usize);
     }
     table
 }
