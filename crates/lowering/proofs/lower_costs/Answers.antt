@@ -1,6 +1,10 @@
+use mathlib.Core.Path.{refl}
 use Rattle.lowering.proofs.Lowered.{lowering_free, lowering_other, lowering_end}
 use Rattle.lowering.proofs.lower_costs.Goals as goal
 use Rattle.lowering.proofs.lower_costs.Goals.{then-column-j-eq1, else-column-j-eq1}
+
+pub loop-k-init : goal.loop-k-init
+loop-k-init c = record { left = record { left = refl }; same = λ n h l. refl }
 
 pub loop-k-preserved : goal.loop-k-preserved
 loop-k-preserved c =
